@@ -1,0 +1,10 @@
+pub mod Legs
+pub mod Ways
+pub mod Priced
+pub mod Hosts
+pub mod Routes
+pub mod Counts
+pub mod Near
+pub mod Labels
+pub mod Theory
+pub mod Worked
