@@ -1,0 +1,3 @@
+mod Trees
+mod Swaps
+mod Moves
