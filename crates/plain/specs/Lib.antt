@@ -1,0 +1,3 @@
+pub mod Lies
+pub mod Relaxing
+pub mod Answers
