@@ -1,0 +1,13 @@
+mod Answered
+mod Canonical
+mod Counting
+mod Digits
+mod KindsOf
+mod Loaded
+mod Marking
+mod Places
+mod Splices
+mod Unframing
+mod Unread
+mod Whole
+mod Written

@@ -1,0 +1,9 @@
+pub mod Hex
+pub mod Frames
+pub mod Reading
+pub mod File
+pub mod Order
+pub mod Entries
+pub mod Faults
+pub mod Loading
+pub mod Writing
