@@ -93,7 +93,18 @@ fn check_totals(totals: Option<Totals>) -> Result<(), Fail> {
 fn by_length<Q: Queue<Tenths>>(heap: Global, queue: &mut Q) -> Result<(), Fail> {
     let mut labels = old_labels();
     let mut near = [old_row(); 4];
-    check_totals(try_work_out(heap, &Length, &worked(), &PIVOTS, &mut near, &mut labels, queue, 0)?)?;
+    check_totals(
+        try_work_out(
+            heap,
+            &Length,
+            &worked(),
+            &PIVOTS,
+            &mut near,
+            &mut labels,
+            queue,
+            0,
+        )?,
+    )?;
     check_eq(queue.draws(), 2)?;
     check_label(labels[0], true, 0)?;
     check_label(labels[1], true, 30)?;
@@ -120,9 +131,29 @@ fn too_few_rows(rt: LibcRuntime) -> Result<(), Fail> {
     let mut queue = heap_of::<Tenths>(heap, 5)?;
     let mut labels = old_labels();
     let mut near = [old_row(); 3];
-    check_totals(try_work_out(heap, &Length, &worked(), &PIVOTS, &mut near, &mut labels, &mut queue, 0)?)?;
+    check_totals(
+        try_work_out(
+            heap,
+            &Length,
+            &worked(),
+            &PIVOTS,
+            &mut near,
+            &mut labels,
+            &mut queue,
+            0,
+        )?,
+    )?;
     let mut near = [old_row(); 2];
-    let none = try_work_out(heap, &Length, &worked(), &PIVOTS, &mut near, &mut labels, &mut queue, 0)?;
+    let none = try_work_out(
+        heap,
+        &Length,
+        &worked(),
+        &PIVOTS,
+        &mut near,
+        &mut labels,
+        &mut queue,
+        0,
+    )?;
     check(none.is_none())?;
     check_eq(queue.draws(), 0)?;
     check_label(labels[3], false, 0)?;
@@ -147,7 +178,16 @@ fn fewest_locks(rt: LibcRuntime) -> Result<(), Fail> {
         mark: 0,
         cost: zero,
     }; 9];
-    let done = try_work_out(heap, &LocksFirst, &worked(), &PIVOTS, &mut near, &mut labels, &mut queue, 0)?;
+    let done = try_work_out(
+        heap,
+        &LocksFirst,
+        &worked(),
+        &PIVOTS,
+        &mut near,
+        &mut labels,
+        &mut queue,
+        0,
+    )?;
     check(done.is_some())?;
     check_eq(labels[2].cost.locks, 0)?;
     check_eq(labels[2].cost.length, 70)?;
