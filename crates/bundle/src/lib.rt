@@ -1,4 +1,6 @@
 // The search by bundles.
+#![tactic(auto)]
+
 ghost use Rattle.std.specs.Prelude.{◌≡◌, ◌<◌, ◌≤◌, true, length, take, drop, Some, None};
 ghost use Rattle.waterway.specs.Labels.{label_of};
 ghost use Rattle.bundling.specs.Marks.{pivot_in, host_at};

@@ -1,4 +1,6 @@
 // The search by bundles over fresh memory, with its conditions checked first, and its tests.
+#![tactic(auto)]
+
 ghost use Rattle.std.specs.Prelude.{◌≡◌, IfOk, vec_len};
 
 use bundle::{Totals, work_out};

@@ -1,4 +1,5 @@
 // Hosts and rows of the near table, and why the search by bundles is right, over any graph and over a waterway.
+#![tactic(auto)]
 
 // A mark of a ball, and what it is away.
 #[derive(Clone, Copy)]

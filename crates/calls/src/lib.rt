@@ -1,4 +1,6 @@
 // A chart's calls as data, and the law over whole lists of them.
+#![tactic(auto)]
+
 ghost use Rattle.std.specs.Prelude.{IfOk};
 ghost use Rattle.chart.specs.Shown.{state};
 ghost use Rattle.chart.specs.State.{blank};

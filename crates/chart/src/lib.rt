@@ -1,4 +1,6 @@
 // A charted waterway: its marks and legs, home and pivots, under one measure.
+#![tactic(auto)]
+
 pub mod entries;
 pub mod refusal;
 pub mod sheet;

@@ -1,4 +1,6 @@
 // Chart files: loaded whole or refused, and written back byte for byte.
+#![tactic(auto)]
+
 mod entry;
 pub mod fault;
 pub mod frame;

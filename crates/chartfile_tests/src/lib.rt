@@ -1,4 +1,6 @@
 // Chart files, good and bad.
+#![tactic(auto)]
+
 use chart::{Chart, Refusal};
 use chartfile::{Cause, Fault, load, write};
 use measure::by_length::{Cost, Length};

@@ -1,4 +1,6 @@
 // Made-up charts, searched from their marks by the plain search and by a table of all pairs: the two must agree.
+#![tactic(auto)]
+
 use crate::made::{Layout, Seed, Shape, make_legs};
 use crate::tally::{Tally, compare};
 use measure::by_length::{Cost, Length};

@@ -1,4 +1,6 @@
 // The steps home, and the routes.
+#![tactic(auto)]
+
 ghost use Rattle.std.specs.Prelude.{◌≡◌, ℕ, ◌<◌, ◌≤◌, true, false, length, drop, Some, None};
 ghost use Rattle.waterway.specs.Labels.{label_of};
 ghost use Rattle.waterway.specs.Ways.{Dist, Tells};

@@ -1,4 +1,6 @@
 // The searches round single marks: the host and the ball of each.
+#![tactic(auto)]
+
 ghost use Rattle.std.specs.Prelude.{◌≡◌, ℕ, ◌+◌, ◌^◌, ◌<◌, ◌≤◌, true, false, ◌⊎◌, map, length, Some, None, MatchBool};
 ghost use Rattle.waterway.specs.Labels.{told as said};
 ghost use Rattle.bundling.specs.Marks.{pivot_in};

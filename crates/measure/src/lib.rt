@@ -1,4 +1,6 @@
 // Kinds of cost, and measures that price a leg of a waterway.
+#![tactic(auto)]
+
 ghost use Rattle.std.specs.Prelude.{◌≡◌, ℕ, ◌^◌, ◌≤◌};
 ghost use Rattle.std.specs.Ordering.{MatchOrdering};
 ghost use Rattle.measure.specs.Kind.{Kind, Lawful};

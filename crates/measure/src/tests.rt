@@ -1,8 +1,8 @@
 ghost use Rattle.std.specs.Prelude.{◌≡◌, max};
 ghost use Rattle.measure.specs.Unlawful.{GreatestLegIsUnlawful, LocksAloneAreUnlawful};
 
-use crate::by_length::{Cost as _, Length};
-use crate::by_locks::{Cost as _, LocksFirst};
+use crate::by_length::Length;
+use crate::by_locks::LocksFirst;
 use crate::passage::Passage;
 use crate::tenths::Tenths;
 use crate::{Cost, LIMIT, Measure};

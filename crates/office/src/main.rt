@@ -1,4 +1,6 @@
 // The office: commands on standard input, an answer a line on standard output.
+#![tactic(auto)]
+
 use std::io::{Read, Write};
 
 mod answer;

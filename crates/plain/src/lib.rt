@@ -1,4 +1,6 @@
 // The plain search: from home the labels of all marks come down to the distances, by rounds of relaxation over all legs.
+#![tactic(auto)]
+
 ghost use Rattle.std.specs.Prelude.{◌≡◌, ℕ, ◌<◌, ◌≤◌, length, Some, None, Decides};
 ghost use Rattle.waterway.specs.Labels.{Within, label_of, told};
 ghost use Rattle.waterway.specs.Priced.{Charted, water};

@@ -1,4 +1,6 @@
 // Queues that give out marks, the least key first.
+#![tactic(auto)]
+
 ghost use Rattle.std.specs.Prelude.{◌≡◌, ℕ, ◌≤◌, None};
 ghost use Rattle.queue.specs.Held.{Held, Alike, cleared};
 ghost use Rattle.queue.specs.Calls.{PutAnswer, LowerAnswer, DrawAnswer, after_setting, after_draw};

@@ -1,4 +1,6 @@
 // Queues over fresh memory, and tests of both kinds of queue at both kinds of cost.
+#![tactic(auto)]
+
 use heap::{Heap, Place};
 use measure::Cost;
 use std::alloc::{AllocError, Global};

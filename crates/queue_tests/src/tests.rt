@@ -1,6 +1,6 @@
 use crate::{heap_of, table_of};
-use measure::by_length::{Cost as _, Length};
-use measure::by_locks::{Cost as _, LocksFirst};
+use measure::by_length::Length;
+use measure::by_locks::LocksFirst;
 use measure::passage::Passage;
 use measure::tenths::Tenths;
 use measure::{Cost, Measure};

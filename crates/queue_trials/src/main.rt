@@ -1,4 +1,6 @@
 // A few thousand pseudo-random calls on two queues at once, which must answer alike.
+#![tactic(auto)]
+
 mod dice;
 mod pair;
 

@@ -1,4 +1,6 @@
 // How a cost is offered to a mark, and on from there: what each search is made of.
+#![tactic(auto)]
+
 ghost use Rattle.std.specs.Prelude.{◌≡◌, ℕ, ◌<◌, ◌≤◌, true, false, length, Some, None};
 ghost use Rattle.waterway.specs.Labels.{label_of};
 ghost use Rattle.relaxing.specs.Offers.{Fallen, Agrees, Offered, Steady, Blank, Clean, Matched, Relaxed, Tried, then_sum};

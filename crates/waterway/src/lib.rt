@@ -1,4 +1,6 @@
 // Legs of a waterway between marks, and labels of marks.
+#![tactic(auto)]
+
 ghost use Rattle.std.specs.Prelude.{◌≡◌, Decides};
 ghost use Rattle.waterway.specs.Legs.{Ends, Joined};
 ghost use Rattle.waterway.specs.Priced.{water};

@@ -4,8 +4,8 @@ ghost use Rattle.waterway.specs.Worked.{worked, WorkedByLength, WorkedByLocks, W
 
 use crate::{Leg, joined, price_at};
 use measure::Cost;
-use measure::by_length::{Cost as _, Length};
-use measure::by_locks::{Cost as _, LocksFirst};
+use measure::by_length::Length;
+use measure::by_locks::LocksFirst;
 use measure::passage::Passage;
 use measure::tenths::Tenths;
 

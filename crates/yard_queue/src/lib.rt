@@ -1,4 +1,6 @@
 // A yard's own queue: any queue, watched to see how often the search changed it.
+#![tactic(auto)]
+
 ghost use Rattle.std.proofs.Common.{rules};
 
 use measure::Cost;

@@ -20,13 +20,13 @@ pub loop-j-init : goal.loop-j-init
 loop-j-init g c =
     let lt : c.args.to < length c.args.hosts.now = omega (arith, c.requires.matched.long, c.requires.inside) in (
       c.requires.laid,
-      ran_refl g.Cost.Cost.lawful _ _ c.requires.matched,
+      ran_refl g.M.Cost.Cost.lawful _ _ c.requires.matched,
       record { each = λ j lo hi. absurd (omega (arith, row_start c.requires.balled c.args.to c.index-hosts-to.result lt c.index-hosts-to.is)) },
     )
 
 pub from-near-requires : goal.from-near-requires
 from-near-requires g c =
-    let S = priced_sound g.Cost.Cost.kind (g.M.Measure.priced c.args.m.now) c.requires.sea.chart g.Cost.Cost.lawful (g.met.M.Measure.small c.args.m.now) in
+    let S = priced_sound g.M.Cost.Cost.kind (g.M.Measure.priced c.args.m.now) c.requires.sea.chart g.M.Cost.Cost.lawful (g.met.M.Measure.small c.args.m.now) in
     let lt : c.args.to < length c.args.hosts.now = omega (arith, c.requires.matched.long, c.requires.inside) in
     let x = c.index-hosts-to.result in
     let y = c.index-near-j.result in
@@ -41,7 +41,7 @@ from-near-requires g c =
 
 pub loop-j-preserved : goal.loop-j-preserved
 loop-j-preserved g c =
-    let S = priced_sound g.Cost.Cost.kind (g.M.Measure.priced c.args.m.now) c.requires.sea.chart g.Cost.Cost.lawful (g.met.M.Measure.small c.args.m.now) in
+    let S = priced_sound g.M.Cost.Cost.kind (g.M.Measure.priced c.args.m.now) c.requires.sea.chart g.M.Cost.Cost.lawful (g.met.M.Measure.small c.args.m.now) in
     let lt : c.args.to < length c.args.hosts.now = omega (arith, c.requires.matched.long, c.requires.inside) in
     let x = c.index-hosts-to.result in
     let y = c.index-near-j.result in
@@ -49,7 +49,7 @@ loop-j-preserved g c =
     let q = c.from-near.ensures.ran in
     let is = near_read c.requires.balled c.args.to x lt c.index-hosts-to.is c.loop-j.j y c.loop-j.auto.j c.loop-j-test.true c.index-near-j.is in (
       c.from-near.ensures.laid,
-      ran_trans g.Cost.Cost.lawful p q,
+      ran_trans g.M.Cost.Cost.lawful p q,
       nears_more S p q c.loop-j.invariant.2 (rw is c.from-near.ensures.offered),
     )
 

@@ -15,14 +15,14 @@ over-legs-requires g c = record {
 
 pub returns : goal.returns
 returns g c =
-    let S = priced_sound g.Cost.Cost.kind (g.M.Measure.priced c.args.m.now) c.requires.sea.chart g.Cost.Cost.lawful (g.met.M.Measure.small c.args.m.now) in
+    let S = priced_sound g.M.Cost.Cost.kind (g.M.Measure.priced c.args.m.now) c.requires.sea.chart g.M.Cost.Cost.lawful (g.met.M.Measure.small c.args.m.now) in
     let p = plain_ran S c.requires.sea.housed c.requires.away c.add.ensures c.label-at.ensures c.try-relax.ensures.tried in
     let q = c.over-legs.ensures.ran in
     record {
       laid = c.over-legs.ensures.laid;
-      ran = ran_trans g.Cost.Cost.lawful p q;
+      ran = ran_trans g.M.Cost.Cost.lawful p q;
       offered = record {
-        ball = λ s sure l r e D f. within_ran g.Cost.Cost.lawful c.args.to q
+        ball = λ s sure l r e D f. within_ran g.M.Cost.Cost.lawful c.args.to q
             (plain_offered S c.requires.sea.housed c.requires.away c.add.ensures c.label-at.ensures c.try-relax.ensures.tried l r e f);
         rim = over_moved S p c.over-legs.ensures.offered;
       };

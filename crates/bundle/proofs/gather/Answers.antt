@@ -24,9 +24,9 @@ from-ball-requires g c = record {
 
 pub returns : goal.returns
 returns g c =
-    let S = priced_sound g.Cost.Cost.kind (g.M.Measure.priced c.args.m.now) c.requires.sea.chart g.Cost.Cost.lawful (g.met.M.Measure.small c.args.m.now) in
+    let S = priced_sound g.M.Cost.Cost.kind (g.M.Measure.priced c.args.m.now) c.requires.sea.chart g.M.Cost.Cost.lawful (g.met.M.Measure.small c.args.m.now) in
     let lt : c.args.v < length c.args.hosts.now = omega (arith, c.requires.matched.long, c.requires.inside) in
-    let K = g.Cost.Cost.kind in
+    let K = g.M.Cost.Cost.kind in
     let x = c.index-hosts-v.result in
     let is = host_read K c.args.hosts.now c.args.v x lt c.index-hosts-v.is in
     let D : Dist (water K (g.M.Measure.priced c.args.m.now) c.args.legs.now) c.args.u c.args.v x.cost = rw is at (mine_dist c.requires.mine S c.requires.sea.housed) in
@@ -35,9 +35,9 @@ returns g c =
     let q = c.from-ball.ensures.ran in
     record {
       laid = c.from-ball.ensures.laid;
-      ran = ran_trans g.Cost.Cost.lawful p q;
+      ran = ran_trans g.M.Cost.Cost.lawful p q;
       gathered = record {
-        own = λ s sure l e r f D' a h. within_ran g.Cost.Cost.lawful c.args.v q
+        own = λ s sure l e r f D' a h. within_ran g.M.Cost.Cost.lawful c.args.v q
             (plain_offered S c.requires.sea.housed D c.add.ensures c.label-at.ensures c.try-relax.ensures.tried l r f (rw (some_injective a gap) at h));
         ball = record { each = λ j lo hi. from_moved S p (c.from-ball.ensures.offered.each j lo hi) };
       };

@@ -15,7 +15,7 @@ gather-requires g c =
       sea = c.requires.sea;
       balled = c.requires.balled;
       inside = c.requires.inside;
-      mine = mine_is g.Cost.Cost.kind c.args.hosts.now c.args.u c.args.v c.index-hosts-v.result lt c.index-hosts-v.is c.if-host.true c.if-host-u.true;
+      mine = mine_is g.M.Cost.Cost.kind c.args.hosts.now c.args.u c.args.v c.index-hosts-v.result lt c.index-hosts-v.is c.if-host.true c.if-host-u.true;
     }
 
 pub returns-then-host-u : goal.returns-then-host-u
@@ -30,6 +30,6 @@ returns-else-host g c =
     let lt : c.args.v < length c.args.hosts.now = omega (arith, c.requires.matched.long, c.requires.inside) in
     record {
       laid = c.requires.laid;
-      ran = ran_refl g.Cost.Cost.lawful _ _ c.requires.matched;
-      gathered = λ mine. absurd (mine_not g.Cost.Cost.kind c.args.hosts.now c.args.u c.args.v c.index-hosts-v.result lt c.index-hosts-v.is c.else-host.either mine);
+      ran = ran_refl g.M.Cost.Cost.lawful _ _ c.requires.matched;
+      gathered = λ mine. absurd (mine_not g.M.Cost.Cost.kind c.args.hosts.now c.args.u c.args.v c.index-hosts-v.result lt c.index-hosts-v.is c.else-host.either mine);
     }

@@ -5,7 +5,7 @@ use Rattle.relaxing.proofs.Legs.{sea_moved, over_more}
 use Rattle.bundle.proofs.over_legs.Goals as goal
 
 pub loop-k-init : goal.loop-k-init
-loop-k-init g c = (c.requires.laid, ran_refl g.Cost.Cost.lawful _ _ c.requires.matched, record { each = λ s sure k z l q r lt. absurd (omega arith) })
+loop-k-init g c = (c.requires.laid, ran_refl g.M.Cost.Cost.lawful _ _ c.requires.matched, record { each = λ s sure k z l q r lt. absurd (omega arith) })
 
 pub over-leg-requires : goal.over-leg-requires
 over-leg-requires g c = record {
@@ -19,12 +19,12 @@ over-leg-requires g c = record {
 
 pub loop-k-preserved : goal.loop-k-preserved
 loop-k-preserved g c =
-    let K = g.Cost.Cost.kind in
-    let S = priced_sound K (g.M.Measure.priced c.args.m.now) c.requires.sea.chart g.Cost.Cost.lawful (g.met.M.Measure.small c.args.m.now) in
+    let K = g.M.Cost.Cost.kind in
+    let S = priced_sound K (g.M.Measure.priced c.args.m.now) c.requires.sea.chart g.M.Cost.Cost.lawful (g.met.M.Measure.small c.args.m.now) in
     let p = c.loop-k.invariant.1 in
     let q = c.over-leg.ensures.ran in (
       c.over-leg.ensures.laid,
-      ran_trans g.Cost.Cost.lawful p q,
+      ran_trans g.M.Cost.Cost.lawful p q,
       over_more S p q c.loop-k.invariant.2 c.over-leg.ensures.offered,
     )
 

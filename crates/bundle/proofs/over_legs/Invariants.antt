@@ -5,5 +5,5 @@ use Rattle.bundle.proofs.over_legs.Given as goal
 abbrev pub invariant-loop-k : goal.invariant-loop-k
 invariant-loop-k g l =
     g.Q.Queue.Laid l.queue
-    × Ran (water g.Cost.Cost.kind (g.M.Measure.priced l.m) l.legs) l.hosts l.initial.labels (g.Q.Queue.held l.initial.queue) l.labels (g.Q.Queue.held l.queue)
-    × OverLegs (water g.Cost.Cost.kind (g.M.Measure.priced l.m) l.legs) l.initial.labels l.labels l.k l.into l.over l.to
+    × Ran (water g.M.Cost.Cost.kind (g.M.Measure.priced l.m) l.legs) l.hosts l.initial.labels (g.Q.Queue.held l.initial.queue) l.labels (g.Q.Queue.held l.queue)
+    × OverLegs (water g.M.Cost.Cost.kind (g.M.Measure.priced l.m) l.legs) l.initial.labels l.labels l.k l.into l.over l.to

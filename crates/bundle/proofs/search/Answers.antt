@@ -18,11 +18,11 @@ offer-requires g c = record {
 
 pub loop-u-init : goal.loop-u-init
 loop-u-init g c =
-    let K = g.Cost.Cost.kind in
+    let K = g.M.Cost.Cost.kind in
     let priced = g.M.Measure.priced c.args.m.now in
     let long : length c.offer.new.labels ≡ length c.args.labels.now = c.offer.auto.labels ∙ c.blank.auto.labels in
     let sea = sea_moved c.requires.sea long in
-    let S = priced_sound K priced sea.chart g.Cost.Cost.lawful (g.met.M.Measure.small c.args.m.now) in
+    let S = priced_sound K priced sea.chart g.M.Cost.Cost.lawful (g.met.M.Measure.small c.args.m.now) in
     let dear = priced_dear K priced sea.chart (g.met.M.Measure.dear c.args.m.now) in
     let a = c.blank.new.labels in
     let b = c.offer.new.labels in
@@ -40,11 +40,11 @@ loop-u-init g c =
 
 pub step-one-requires : goal.step-one-requires
 step-one-requires g c =
-    let K = g.Cost.Cost.kind in
+    let K = g.M.Cost.Cost.kind in
     let priced = g.M.Measure.priced c.args.m.now in
     let long : length c.offer.new.labels ≡ length c.args.labels.now = c.offer.auto.labels ∙ c.blank.auto.labels in
     let sea = sea_moved c.requires.sea long in
-    let S = priced_sound K priced sea.chart g.Cost.Cost.lawful (g.met.M.Measure.small c.args.m.now) in
+    let S = priced_sound K priced sea.chart g.M.Cost.Cost.lawful (g.met.M.Measure.small c.args.m.now) in
     let dear = priced_dear K priced sea.chart (g.met.M.Measure.dear c.args.m.now) in
     let d = c.in-Some.ensures in
     record {
@@ -56,11 +56,11 @@ step-one-requires g c =
 
 pub step-two-requires : goal.step-two-requires
 step-two-requires g c =
-    let K = g.Cost.Cost.kind in
+    let K = g.M.Cost.Cost.kind in
     let priced = g.M.Measure.priced c.args.m.now in
     let long : length c.offer.new.labels ≡ length c.args.labels.now = c.offer.auto.labels ∙ c.blank.auto.labels in
     let sea = sea_moved c.requires.sea long in
-    let S = priced_sound K priced sea.chart g.Cost.Cost.lawful (g.met.M.Measure.small c.args.m.now) in
+    let S = priced_sound K priced sea.chart g.M.Cost.Cost.lawful (g.met.M.Measure.small c.args.m.now) in
     let dear = priced_dear K priced sea.chart (g.met.M.Measure.dear c.args.m.now) in
     record {
       laid = c.step-one.ensures.laid;
@@ -71,11 +71,11 @@ step-two-requires g c =
 
 pub loop-u-smaller : goal.loop-u-smaller
 loop-u-smaller g c =
-    let K = g.Cost.Cost.kind in
+    let K = g.M.Cost.Cost.kind in
     let priced = g.M.Measure.priced c.args.m.now in
     let long : length c.offer.new.labels ≡ length c.args.labels.now = c.offer.auto.labels ∙ c.blank.auto.labels in
     let sea = sea_moved c.requires.sea long in
-    let S = priced_sound K priced sea.chart g.Cost.Cost.lawful (g.met.M.Measure.small c.args.m.now) in
+    let S = priced_sound K priced sea.chart g.M.Cost.Cost.lawful (g.met.M.Measure.small c.args.m.now) in
     let dear = priced_dear K priced sea.chart (g.met.M.Measure.dear c.args.m.now) in
     let d = c.in-Some.ensures in
     let one = step_one_moved c.step-one.ensures.gathered (c.step-one.auto.labels ∙ c.loop-u.auto.labels) in
@@ -90,11 +90,11 @@ loop-u-smaller g c =
 
 pub loop-u-preserved : goal.loop-u-preserved
 loop-u-preserved g c =
-    let K = g.Cost.Cost.kind in
+    let K = g.M.Cost.Cost.kind in
     let priced = g.M.Measure.priced c.args.m.now in
     let long : length c.offer.new.labels ≡ length c.args.labels.now = c.offer.auto.labels ∙ c.blank.auto.labels in
     let sea = sea_moved c.requires.sea long in
-    let S = priced_sound K priced sea.chart g.Cost.Cost.lawful (g.met.M.Measure.small c.args.m.now) in
+    let S = priced_sound K priced sea.chart g.M.Cost.Cost.lawful (g.met.M.Measure.small c.args.m.now) in
     let dear = priced_dear K priced sea.chart (g.met.M.Measure.dear c.args.m.now) in
     let d = c.in-Some.ensures in
     let one = step_one_moved c.step-one.ensures.gathered (c.step-one.auto.labels ∙ c.loop-u.auto.labels) in
@@ -115,13 +115,13 @@ loop-u-preserved g c =
 
 pub returns : goal.returns
 returns g c =
-    let K = g.Cost.Cost.kind in
+    let K = g.M.Cost.Cost.kind in
     let priced = g.M.Measure.priced c.args.m.now in
     let long : length c.offer.new.labels ≡ length c.args.labels.now = c.offer.auto.labels ∙ c.blank.auto.labels in
     let sea = sea_moved c.requires.sea long in
-    let S = priced_sound K priced sea.chart g.Cost.Cost.lawful (g.met.M.Measure.small c.args.m.now) in
+    let S = priced_sound K priced sea.chart g.M.Cost.Cost.lawful (g.met.M.Measure.small c.args.m.now) in
     let dear = priced_dear K priced sea.chart (g.met.M.Measure.dear c.args.m.now) in
-    let d = c.in-default.ensures in
+    let d = c.in_default.ensures in
     let ready = c.loop-u.invariant.2 S dear sea.housed c.requires.pivot in
     let count = c.draws.ensures ∙ (d.after.draws ∙ c.loop-u.invariant.3) in
     record {

@@ -10,10 +10,10 @@ use Rattle.bundle.proofs.search.Given as goal
 abbrev pub invariant-loop-u : goal.invariant-loop-u
 invariant-loop-u g l =
     g.Q.Queue.Laid l.queue
-    × Matched g.Cost.Cost.kind l.hosts l.labels (g.Q.Queue.held l.queue)
-    × ReadyAt (water g.Cost.Cost.kind (g.M.Measure.priced l.m) l.legs) (length l.initial.labels) l.hosts l.home l.labels (g.Q.Queue.held l.queue)
-    × ((g.Q.Queue.held l.queue).draws ≡ tally (drawn_of (pivot_in g.Cost.Cost.kind l.hosts) (label_of g.Cost.Cost.kind l.labels) (g.Q.Queue.held l.queue).key) (length l.initial.labels))
+    × Matched g.M.Cost.Cost.kind l.hosts l.labels (g.Q.Queue.held l.queue)
+    × ReadyAt (water g.M.Cost.Cost.kind (g.M.Measure.priced l.m) l.legs) (length l.initial.labels) l.hosts l.home l.labels (g.Q.Queue.held l.queue)
+    × ((g.Q.Queue.held l.queue).draws ≡ tally (drawn_of (pivot_in g.M.Cost.Cost.kind l.hosts) (label_of g.M.Cost.Cost.kind l.labels) (g.Q.Queue.held l.queue).key) (length l.initial.labels))
     × ((g.Q.Queue.held l.queue).span ≡ (g.Q.Queue.held l.initial.queue).span)
 
 abbrev pub decreases-loop-u : goal.decreases-loop-u
-decreases-loop-u g l = length l.initial.labels - tally (drawn_of (pivot_in g.Cost.Cost.kind l.hosts) (label_of g.Cost.Cost.kind l.labels) (g.Q.Queue.held l.queue).key) (length l.initial.labels)
+decreases-loop-u g l = length l.initial.labels - tally (drawn_of (pivot_in g.M.Cost.Cost.kind l.hosts) (label_of g.M.Cost.Cost.kind l.labels) (g.Q.Queue.held l.queue).key) (length l.initial.labels)

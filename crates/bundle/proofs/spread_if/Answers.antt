@@ -29,6 +29,6 @@ returns-else-host g c =
     let lt : c.args.x < length c.args.hosts.now = omega (arith, c.requires.matched.long, c.requires.inside) in
     record {
       laid = c.requires.laid;
-      ran = ran_refl g.Cost.Cost.lawful _ _ c.requires.matched;
-      spread = λ mine. absurd (mine_not g.Cost.Cost.kind c.args.hosts.now c.args.u c.args.x c.index-hosts-x.result lt c.index-hosts-x.is c.else-host.either mine);
+      ran = ran_refl g.M.Cost.Cost.lawful _ _ c.requires.matched;
+      spread = λ mine. absurd (mine_not g.M.Cost.Cost.kind c.args.hosts.now c.args.u c.args.x c.index-hosts-x.result lt c.index-hosts-x.is c.else-host.either mine);
     }

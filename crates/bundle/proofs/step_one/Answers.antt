@@ -6,7 +6,7 @@ use Rattle.relaxing.proofs.Rows.{balled_moved}
 use Rattle.bundle.proofs.step_one.Goals as goal
 
 pub loop-v-init : goal.loop-v-init
-loop-v-init g c = (c.requires.laid, ran_refl g.Cost.Cost.lawful _ _ c.requires.matched, record { each = λ v lt. absurd (omega arith) })
+loop-v-init g c = (c.requires.laid, ran_refl g.M.Cost.Cost.lawful _ _ c.requires.matched, record { each = λ v lt. absurd (omega arith) })
 
 pub gather-if-requires : goal.gather-if-requires
 gather-if-requires g c = record {
@@ -19,11 +19,11 @@ gather-if-requires g c = record {
 
 pub loop-v-preserved : goal.loop-v-preserved
 loop-v-preserved g c =
-    let S = priced_sound g.Cost.Cost.kind (g.M.Measure.priced c.args.m.now) c.requires.sea.chart g.Cost.Cost.lawful (g.met.M.Measure.small c.args.m.now) in
+    let S = priced_sound g.M.Cost.Cost.kind (g.M.Measure.priced c.args.m.now) c.requires.sea.chart g.M.Cost.Cost.lawful (g.met.M.Measure.small c.args.m.now) in
     let p = c.loop-v.invariant.1 in
     let q = c.gather-if.ensures.ran in (
       c.gather-if.ensures.laid,
-      ran_trans g.Cost.Cost.lawful p q,
+      ran_trans g.M.Cost.Cost.lawful p q,
       step_one_more S p q c.loop-v.invariant.2 c.gather-if.ensures.gathered,
     )
 

@@ -5,5 +5,5 @@ use Rattle.bundle.proofs.step_one.Given as goal
 abbrev pub invariant-loop-v : goal.invariant-loop-v
 invariant-loop-v g l =
     g.Q.Queue.Laid l.queue
-    × Ran (water g.Cost.Cost.kind (g.M.Measure.priced l.m) l.legs) l.hosts l.initial.labels (g.Q.Queue.held l.initial.queue) l.labels (g.Q.Queue.held l.queue)
-    × StepOne (water g.Cost.Cost.kind (g.M.Measure.priced l.m) l.legs) l.hosts l.near l.initial.labels l.labels l.u l.v
+    × Ran (water g.M.Cost.Cost.kind (g.M.Measure.priced l.m) l.legs) l.hosts l.initial.labels (g.Q.Queue.held l.initial.queue) l.labels (g.Q.Queue.held l.queue)
+    × StepOne (water g.M.Cost.Cost.kind (g.M.Measure.priced l.m) l.legs) l.hosts l.near l.initial.labels l.labels l.u l.v

@@ -7,7 +7,7 @@ use Rattle.relaxing.proofs.Spreads.{spread_legs_moved, step_two_more}
 use Rattle.bundle.proofs.step_two.Goals as goal
 
 pub loop-x-init : goal.loop-x-init
-loop-x-init g c = (c.requires.laid, ran_refl g.Cost.Cost.lawful _ _ c.requires.matched, record { each = λ v lt. absurd (omega arith) })
+loop-x-init g c = (c.requires.laid, ran_refl g.M.Cost.Cost.lawful _ _ c.requires.matched, record { each = λ v lt. absurd (omega arith) })
 
 pub spread-if-requires : goal.spread-if-requires
 spread-if-requires g c = record {
@@ -20,11 +20,11 @@ spread-if-requires g c = record {
 
 pub loop-x-preserved : goal.loop-x-preserved
 loop-x-preserved g c =
-    let S = priced_sound g.Cost.Cost.kind (g.M.Measure.priced c.args.m.now) c.requires.sea.chart g.Cost.Cost.lawful (g.met.M.Measure.small c.args.m.now) in
+    let S = priced_sound g.M.Cost.Cost.kind (g.M.Measure.priced c.args.m.now) c.requires.sea.chart g.M.Cost.Cost.lawful (g.met.M.Measure.small c.args.m.now) in
     let p = c.loop-x.invariant.1 in
     let q = c.spread-if.ensures.ran in (
       c.spread-if.ensures.laid,
-      ran_trans g.Cost.Cost.lawful p q,
+      ran_trans g.M.Cost.Cost.lawful p q,
       step_two_more S p q c.loop-x.invariant.2 (λ mine. spread_legs_moved (c.spread-if.ensures.spread mine) c.loop-x.auto.labels),
     )
 

@@ -6,5 +6,5 @@ use Rattle.bundle.proofs.step_two.Given as goal
 abbrev pub invariant-loop-x : goal.invariant-loop-x
 invariant-loop-x g l =
     g.Q.Queue.Laid l.queue
-    × Ran (water g.Cost.Cost.kind (g.M.Measure.priced l.m) l.legs) l.hosts l.initial.labels (g.Q.Queue.held l.initial.queue) l.labels (g.Q.Queue.held l.queue)
-    × StepTwo (water g.Cost.Cost.kind (g.M.Measure.priced l.m) l.legs) (length l.initial.labels) l.hosts l.initial.labels l.labels l.u l.x
+    × Ran (water g.M.Cost.Cost.kind (g.M.Measure.priced l.m) l.legs) l.hosts l.initial.labels (g.Q.Queue.held l.initial.queue) l.labels (g.Q.Queue.held l.queue)
+    × StepTwo (water g.M.Cost.Cost.kind (g.M.Measure.priced l.m) l.legs) (length l.initial.labels) l.hosts l.initial.labels l.labels l.u l.x

@@ -8,9 +8,9 @@ use Rattle.homeward.proofs.write_route.Goals as goal
 
 pub loop-mark-init : goal.loop-mark-init
 loop-mark-init g c =
-    let K = g.Cost.Cost.kind in
+    let K = g.M.Cost.Cost.kind in
     let priced = g.M.Measure.priced c.args.m.now in
-    let S = priced_sound K priced c.requires.chart g.Cost.Cost.lawful (g.met.M.Measure.small c.args.m.now) in
+    let S = priced_sound K priced c.requires.chart g.M.Cost.Cost.lawful (g.met.M.Measure.small c.args.m.now) in
     let dear = priced_dear K priced c.requires.chart (g.met.M.Measure.dear c.args.m.now) in
     let r = routes.route_exists S c.args.home dear c.requires.way.1 in (
       r.0,
@@ -22,53 +22,53 @@ loop-mark-init g c =
 
 pub overflow-cast-step : goal.overflow-cast-step
 overflow-cast-step g c =
-    let K = g.Cost.Cost.kind in
+    let K = g.M.Cost.Cost.kind in
     let priced = g.M.Measure.priced c.args.m.now in
-    let S = priced_sound K priced c.requires.chart g.Cost.Cost.lawful (g.met.M.Measure.small c.args.m.now) in
+    let S = priced_sound K priced c.requires.chart g.M.Cost.Cost.lawful (g.met.M.Measure.small c.args.m.now) in
     let dear = priced_dear K priced c.requires.chart (g.met.M.Measure.dear c.args.m.now) in
     let lt : c.loop-mark.mark < length c.args.steps.now = mark_in S dear c.args.home c.loop-mark-test.true c.loop-mark.invariant.1 in
     omega (arith, c.requires.chart.few)
 
 pub offset-bounds-steps-mark : goal.offset-bounds-steps-mark
 offset-bounds-steps-mark g c =
-    let K = g.Cost.Cost.kind in
+    let K = g.M.Cost.Cost.kind in
     let priced = g.M.Measure.priced c.args.m.now in
-    let S = priced_sound K priced c.requires.chart g.Cost.Cost.lawful (g.met.M.Measure.small c.args.m.now) in
+    let S = priced_sound K priced c.requires.chart g.M.Cost.Cost.lawful (g.met.M.Measure.small c.args.m.now) in
     let dear = priced_dear K priced c.requires.chart (g.met.M.Measure.dear c.args.m.now) in
     let lt : c.loop-mark.mark < length c.args.steps.now = mark_in S dear c.args.home c.loop-mark-test.true c.loop-mark.invariant.1 in
     omega (arith, lt, c.requires.chart.few)
 
 pub bounds-steps-mark : goal.bounds-steps-mark
 bounds-steps-mark g c =
-    let K = g.Cost.Cost.kind in
+    let K = g.M.Cost.Cost.kind in
     let priced = g.M.Measure.priced c.args.m.now in
-    let S = priced_sound K priced c.requires.chart g.Cost.Cost.lawful (g.met.M.Measure.small c.args.m.now) in
+    let S = priced_sound K priced c.requires.chart g.M.Cost.Cost.lawful (g.met.M.Measure.small c.args.m.now) in
     let dear = priced_dear K priced c.requires.chart (g.met.M.Measure.dear c.args.m.now) in
     let lt : c.loop-mark.mark < length c.args.steps.now = mark_in S dear c.args.home c.loop-mark-test.true c.loop-mark.invariant.1 in
     lt
 
 pub overflow-sub-at : goal.overflow-sub-at
 overflow-sub-at g c =
-    let K = g.Cost.Cost.kind in
+    let K = g.M.Cost.Cost.kind in
     let priced = g.M.Measure.priced c.args.m.now in
-    let S = priced_sound K priced c.requires.chart g.Cost.Cost.lawful (g.met.M.Measure.small c.args.m.now) in
+    let S = priced_sound K priced c.requires.chart g.M.Cost.Cost.lawful (g.met.M.Measure.small c.args.m.now) in
     let dear = priced_dear K priced c.requires.chart (g.met.M.Measure.dear c.args.m.now) in
     room_left S dear c.args.home c.loop-mark-test.true c.loop-mark.invariant.1 c.loop-mark.invariant.3
 
 pub loop-mark-smaller : goal.loop-mark-smaller
 loop-mark-smaller g c =
-    let K = g.Cost.Cost.kind in
+    let K = g.M.Cost.Cost.kind in
     let priced = g.M.Measure.priced c.args.m.now in
-    let S = priced_sound K priced c.requires.chart g.Cost.Cost.lawful (g.met.M.Measure.small c.args.m.now) in
+    let S = priced_sound K priced c.requires.chart g.M.Cost.Cost.lawful (g.met.M.Measure.small c.args.m.now) in
     let dear = priced_dear K priced c.requires.chart (g.met.M.Measure.dear c.args.m.now) in
     let some = room_left S dear c.args.home c.loop-mark-test.true c.loop-mark.invariant.1 c.loop-mark.invariant.3 in
     omega (arith, some)
 
 pub loop-mark-preserved : goal.loop-mark-preserved
 loop-mark-preserved g c =
-    let K = g.Cost.Cost.kind in
+    let K = g.M.Cost.Cost.kind in
     let priced = g.M.Measure.priced c.args.m.now in
-    let S = priced_sound K priced c.requires.chart g.Cost.Cost.lawful (g.met.M.Measure.small c.args.m.now) in
+    let S = priced_sound K priced c.requires.chart g.M.Cost.Cost.lawful (g.met.M.Measure.small c.args.m.now) in
     let dear = priced_dear K priced c.requires.chart (g.met.M.Measure.dear c.args.m.now) in
     let lt : c.loop-mark.mark < length c.args.steps.now = mark_in S dear c.args.home c.loop-mark-test.true c.loop-mark.invariant.1 in
     let w = walked S dear c.args.home c.loop-mark-test.true c.loop-mark.invariant.1 (step_at c.args.steps.now c.loop-mark.mark) (c.requires.steps.each c.loop-mark.mark lt)

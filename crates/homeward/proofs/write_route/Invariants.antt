@@ -7,8 +7,8 @@ use Rattle.homeward.proofs.write_route.Given as goal
 abbrev pub invariant-loop-mark : goal.invariant-loop-mark
 invariant-loop-mark g l =
     (ks : List ℕ)
-    × Route (water g.Cost.Cost.kind (g.M.Measure.priced l.m) l.legs) l.home l.mark ks
-    × Route (water g.Cost.Cost.kind (g.M.Measure.priced l.m) l.legs) l.home l.v (ks ++ drop l.at l.route)
+    × Route (water g.M.Cost.Cost.kind (g.M.Measure.priced l.m) l.legs) l.home l.mark ks
+    × Route (water g.M.Cost.Cost.kind (g.M.Measure.priced l.m) l.legs) l.home l.v (ks ++ drop l.at l.route)
     × (length ks ≤ l.at)
     × (l.at ≤ length l.initial.route)
 

@@ -5,8 +5,8 @@ use Rattle.hosts.proofs.local_host.Goals as goal
 
 pub returns-then-pivots-v : goal.returns-then-pivots-v
 returns-then-pivots-v g c =
-    let K = g.Cost.Cost.kind in
-    let L = g.Cost.Cost.lawful in
+    let K = g.M.Cost.Cost.kind in
+    let L = g.M.Cost.Cost.lawful in
     let priced = g.M.Measure.priced c.args.m.now in
     let S = priced_sound K priced c.requires.chart L (g.met.M.Measure.small c.args.m.now) in
     let dear = priced_dear K priced c.requires.chart (g.met.M.Measure.dear c.args.m.now) in
@@ -14,25 +14,25 @@ returns-then-pivots-v g c =
     let near = c.args.near.now in
     record { span = refl; made = rw c.zero.ensures (made_pivot S dear pivots c.args.v c.requires.inside c.args.start near c.if-pivots-v.true) }
 
-pub returns-in-default : goal.returns-in-default
-returns-in-default g c =
-    let K = g.Cost.Cost.kind in
-    let L = g.Cost.Cost.lawful in
+pub returns-in_default : goal.returns-in_default
+returns-in_default g c =
+    let K = g.M.Cost.Cost.kind in
+    let L = g.M.Cost.Cost.lawful in
     let priced = g.M.Measure.priced c.args.m.now in
     let S = priced_sound K priced c.requires.chart L (g.met.M.Measure.small c.args.m.now) in
     let dear = priced_dear K priced c.requires.chart (g.met.M.Measure.dear c.args.m.now) in
     let pivots = c.args.pivots.now in
     let near = c.args.near.now in
-    let h = nearest_moved K pivots c.look-round.new.labels None c.in-default.ensures c.look-round.auto.labels in
+    let h = nearest_moved K pivots c.look-round.new.labels None c.in_default.ensures c.look-round.auto.labels in
     record {
       span = c.look-round.ensures.span;
-      made = rw c.zero-in-default.ensures (made_none S dear pivots c.args.v c.requires.inside c.args.start near c.look-round.ensures.around c.if-pivots-v.false h);
+      made = rw c.zero-in_default.ensures (made_none S dear pivots c.args.v c.requires.inside c.args.start near c.look-round.ensures.around c.if-pivots-v.false h);
     }
 
 pub returns : goal.returns
 returns g c =
-    let K = g.Cost.Cost.kind in
-    let L = g.Cost.Cost.lawful in
+    let K = g.M.Cost.Cost.kind in
+    let L = g.M.Cost.Cost.lawful in
     let priced = g.M.Measure.priced c.args.m.now in
     let S = priced_sound K priced c.requires.chart L (g.met.M.Measure.small c.args.m.now) in
     let dear = priced_dear K priced c.requires.chart (g.met.M.Measure.dear c.args.m.now) in

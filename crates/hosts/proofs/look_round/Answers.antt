@@ -20,8 +20,8 @@ offer-requires g c = record {
 
 pub loop-drawn-init : goal.loop-drawn-init
 loop-drawn-init g c =
-    let K = g.Cost.Cost.kind in
-    let L = g.Cost.Cost.lawful in
+    let K = g.M.Cost.Cost.kind in
+    let L = g.M.Cost.Cost.lawful in
     let priced = g.M.Measure.priced c.args.m.now in
     let long : length c.offer.new.labels ≡ length c.args.labels.now = c.offer.auto.labels ∙ c.blank.auto.labels in
     let chart = chart_moved c.requires.chart long in
@@ -47,8 +47,8 @@ loop-drawn-init g c =
 
 pub spread-out-requires : goal.spread-out-requires
 spread-out-requires g c =
-    let K = g.Cost.Cost.kind in
-    let L = g.Cost.Cost.lawful in
+    let K = g.M.Cost.Cost.kind in
+    let L = g.M.Cost.Cost.lawful in
     let priced = g.M.Measure.priced c.args.m.now in
     let long : length c.offer.new.labels ≡ length c.args.labels.now = c.offer.auto.labels ∙ c.blank.auto.labels in
     let chart = chart_moved c.requires.chart long in
@@ -71,8 +71,8 @@ spread-out-requires g c =
 
 pub loop-drawn-smaller : goal.loop-drawn-smaller
 loop-drawn-smaller g c =
-    let K = g.Cost.Cost.kind in
-    let L = g.Cost.Cost.lawful in
+    let K = g.M.Cost.Cost.kind in
+    let L = g.M.Cost.Cost.lawful in
     let priced = g.M.Measure.priced c.args.m.now in
     let long : length c.offer.new.labels ≡ length c.args.labels.now = c.offer.auto.labels ∙ c.blank.auto.labels in
     let chart = chart_moved c.requires.chart long in
@@ -96,8 +96,8 @@ loop-drawn-smaller g c =
 
 pub loop-drawn-preserved : goal.loop-drawn-preserved
 loop-drawn-preserved g c =
-    let K = g.Cost.Cost.kind in
-    let L = g.Cost.Cost.lawful in
+    let K = g.M.Cost.Cost.kind in
+    let L = g.M.Cost.Cost.lawful in
     let priced = g.M.Measure.priced c.args.m.now in
     let long : length c.offer.new.labels ≡ length c.args.labels.now = c.offer.auto.labels ∙ c.blank.auto.labels in
     let chart = chart_moved c.requires.chart long in
@@ -125,8 +125,8 @@ loop-drawn-preserved g c =
 
 pub returns-then-is-past : goal.returns-then-is-past
 returns-then-is-past g c =
-    let K = g.Cost.Cost.kind in
-    let L = g.Cost.Cost.lawful in
+    let K = g.M.Cost.Cost.kind in
+    let L = g.M.Cost.Cost.lawful in
     let priced = g.M.Measure.priced c.args.m.now in
     let long : length c.offer.new.labels ≡ length c.args.labels.now = c.offer.auto.labels ∙ c.blank.auto.labels in
     let chart = chart_moved c.requires.chart long in
@@ -141,10 +141,10 @@ returns-then-is-past g c =
     let ready = c.loop-drawn.invariant.2 S dear housed piv in
     record { span = omega (arith, d.after.span, c.loop-drawn.invariant.4, c.offer.ensures.steady.span, c.clear.ensures.after.span); around = around_moved (around_past own S dear v v_in c.loop-drawn.invariant.1 ready c.args.pivots.now d.answer c.loop-drawn.best c.loop-drawn.invariant.3 c.if-is-past.ensures) long }
 
-pub returns-in-default : goal.returns-in-default
-returns-in-default g c =
-    let K = g.Cost.Cost.kind in
-    let L = g.Cost.Cost.lawful in
+pub returns-in_default : goal.returns-in_default
+returns-in_default g c =
+    let K = g.M.Cost.Cost.kind in
+    let L = g.M.Cost.Cost.lawful in
     let priced = g.M.Measure.priced c.args.m.now in
     let long : length c.offer.new.labels ≡ length c.args.labels.now = c.offer.auto.labels ∙ c.blank.auto.labels in
     let chart = chart_moved c.requires.chart long in
@@ -156,18 +156,18 @@ returns-in-default g c =
     let housed = selves_housed own S dear in
     let piv = self_pivot own v v_in in
     let ready = c.loop-drawn.invariant.2 S dear housed piv in
-    record { span = omega (arith, c.in-default.ensures.after.span, c.loop-drawn.invariant.4, c.offer.ensures.steady.span, c.clear.ensures.after.span); around = around_moved (around_end own S dear v v_in c.loop-drawn.invariant.1 ready c.args.pivots.now c.in-default.ensures.answer) long }
+    record { span = omega (arith, c.in_default.ensures.after.span, c.loop-drawn.invariant.4, c.offer.ensures.steady.span, c.clear.ensures.after.span); around = around_moved (around_end own S dear v v_in c.loop-drawn.invariant.1 ready c.args.pivots.now c.in_default.ensures.answer) long }
 
 pub bounds-pivots-u : goal.bounds-pivots-u
 bounds-pivots-u g c =
-    let K = g.Cost.Cost.kind in
+    let K = g.M.Cost.Cost.kind in
     let priced = g.M.Measure.priced c.args.m.now in
     let long : length c.offer.new.labels ≡ length c.args.labels.now = c.offer.auto.labels ∙ c.blank.auto.labels in
     let chart = chart_moved c.requires.chart long in
     let own = selves_moved c.requires.selves long in
     let v = c.args.v in
     let v_in : v < length c.offer.new.labels = omega (arith, c.requires.inside, long) in
-    let S = priced_sound K priced chart g.Cost.Cost.lawful (g.met.M.Measure.small c.args.m.now) in
+    let S = priced_sound K priced chart g.M.Cost.Cost.lawful (g.met.M.Measure.small c.args.m.now) in
     let dear = priced_dear K priced chart (g.met.M.Measure.dear c.args.m.now) in
     let housed = selves_housed own S dear in
     let piv = self_pivot own v v_in in

@@ -11,10 +11,10 @@ use Rattle.hosts.proofs.look_round.Given as goal
 abbrev pub invariant-loop-drawn : goal.invariant-loop-drawn
 invariant-loop-drawn g l =
     g.Q.Queue.Laid l.queue
-    × Matched g.Cost.Cost.kind l.selves l.labels (g.Q.Queue.held l.queue)
-    × ReadyAt (water g.Cost.Cost.kind (g.M.Measure.priced l.m) l.legs) (length l.initial.labels) l.selves l.v l.labels (g.Q.Queue.held l.queue)
-    × Found (water g.Cost.Cost.kind (g.M.Measure.priced l.m) l.legs) (length l.initial.labels) l.pivots l.v l.best
+    × Matched g.M.Cost.Cost.kind l.selves l.labels (g.Q.Queue.held l.queue)
+    × ReadyAt (water g.M.Cost.Cost.kind (g.M.Measure.priced l.m) l.legs) (length l.initial.labels) l.selves l.v l.labels (g.Q.Queue.held l.queue)
+    × Found (water g.M.Cost.Cost.kind (g.M.Measure.priced l.m) l.legs) (length l.initial.labels) l.pivots l.v l.best
     × ((g.Q.Queue.held l.queue).span ≡ (g.Q.Queue.held l.initial.queue).span)
 
 abbrev pub decreases-loop-drawn : goal.decreases-loop-drawn
-decreases-loop-drawn g l = length l.initial.labels - tally (drawn_of (pivot_in g.Cost.Cost.kind l.selves) (label_of g.Cost.Cost.kind l.labels) (g.Q.Queue.held l.queue).key) (length l.initial.labels)
+decreases-loop-drawn g l = length l.initial.labels - tally (drawn_of (pivot_in g.M.Cost.Cost.kind l.selves) (label_of g.M.Cost.Cost.kind l.labels) (g.Q.Queue.held l.queue).key) (length l.initial.labels)

@@ -7,7 +7,7 @@ use Rattle.hosts.proofs.Hosting.{hosts_none, hosts_kept, near_table, hosts_more,
 use Rattle.hosts.proofs.make_hosts.Goals as goal
 
 pub loop-v-init : goal.loop-v-init
-loop-v-init g c = (refl, omega arith, hosts_none c.args.hosts.now c.args.near.now c.args.near.now 0 0 (no_host g.Cost.Cost.kind))
+loop-v-init g c = (refl, omega arith, hosts_none c.args.hosts.now c.args.near.now c.args.near.now 0 0 (no_host g.M.Cost.Cost.kind))
 
 pub local-host-host-requires : goal.local-host-host-requires
 local-host-host-requires g c = record {
@@ -30,8 +30,8 @@ loop-v-preserved g c =
 
 pub returns : goal.returns
 returns g c =
-    let K = g.Cost.Cost.kind in
-    let L = g.Cost.Cost.lawful in
+    let K = g.M.Cost.Cost.kind in
+    let L = g.M.Cost.Cost.lawful in
     let priced = g.M.Measure.priced c.args.m.now in
     let S = priced_sound K priced c.requires.chart L (g.met.M.Measure.small c.args.m.now) in
     let dear = priced_dear K priced c.requires.chart (g.met.M.Measure.dear c.args.m.now) in

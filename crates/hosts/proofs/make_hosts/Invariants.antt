@@ -7,4 +7,4 @@ abbrev pub invariant-loop-v : goal.invariant-loop-v
 invariant-loop-v g l =
     ((g.Q.Queue.held l.queue).span ≡ (g.Q.Queue.held l.initial.queue).span)
     × (l.at ≤ 256 * l.v)
-    × HostsMade (water g.Cost.Cost.kind (g.M.Measure.priced l.m) l.legs) (length l.initial.labels) l.pivots l.hosts l.near l.v l.at
+    × HostsMade (water g.M.Cost.Cost.kind (g.M.Measure.priced l.m) l.legs) (length l.initial.labels) l.pivots l.hosts l.near l.v l.at

@@ -20,20 +20,20 @@ returns-then-not-all-lie g c =
 pub loop-round-init : goal.loop-round-init
 loop-round-init g c =
     let chart = charted c.if-marks-gt256.false (c.all_lie.ensures.0 c.if-not-all-lie.false) in
-    let S = priced_sound g.Cost.Cost.kind (g.M.Measure.priced c.args.m.now) chart g.Cost.Cost.lawful (g.met.M.Measure.small c.args.m.now) in
+    let S = priced_sound g.M.Cost.Cost.kind (g.M.Measure.priced c.args.m.now) chart g.M.Cost.Cost.lawful (g.met.M.Measure.small c.args.m.now) in
     let sure = sure_start S c.blank.ensures (rw c.zero.ensures at c.lower.ensures) in
     (sure, reached_start S sure)
 
 pub loop-round-preserved : goal.loop-round-preserved
 loop-round-preserved g c =
     let chart = charted c.if-marks-gt256.false (c.all_lie.ensures.0 c.if-not-all-lie.false) in
-    let S = priced_sound g.Cost.Cost.kind (g.M.Measure.priced c.args.m.now) chart g.Cost.Cost.lawful (g.met.M.Measure.small c.args.m.now) in
+    let S = priced_sound g.M.Cost.Cost.kind (g.M.Measure.priced c.args.m.now) chart g.M.Cost.Cost.lawful (g.met.M.Measure.small c.args.m.now) in
     let round = c.relax-all.ensures c.args.home c.loop-round.invariant.0 in
     (round.sure, reached_more S (omega arith) c.loop-round.invariant.0 c.loop-round.invariant.1 round)
 
 pub returns : goal.returns
 returns g c =
     let chart = charted c.if-marks-gt256.false (c.all_lie.ensures.0 c.if-not-all-lie.false) in
-    let S = priced_sound g.Cost.Cost.kind (g.M.Measure.priced c.args.m.now) chart g.Cost.Cost.lawful (g.met.M.Measure.small c.args.m.now) in
+    let S = priced_sound g.M.Cost.Cost.kind (g.M.Measure.priced c.args.m.now) chart g.M.Cost.Cost.lawful (g.met.M.Measure.small c.args.m.now) in
     let last : c.loop-round.-round ≡ length c.args.labels.now = omega arith in
     (chart, omega arith, λ v lt. all_told S c.loop-round.invariant.0 (rw last at c.loop-round.invariant.1) v (omega arith))

@@ -7,5 +7,5 @@ use Rattle.plain.proofs.find_distances.Given as goal
 -- each label is the cost of a way, and no walk of fewer legs than this round's number costs less
 abbrev pub invariant-loop-round : goal.invariant-loop-round
 invariant-loop-round g l =
-    Sure (water g.Cost.Cost.kind (g.M.Measure.priced l.m) l.legs) l.home (label_of g.Cost.Cost.kind l.labels)
-    × Reached (water g.Cost.Cost.kind (g.M.Measure.priced l.m) l.legs) l.home l.-round (label_of g.Cost.Cost.kind l.labels)
+    Sure (water g.M.Cost.Cost.kind (g.M.Measure.priced l.m) l.legs) l.home (label_of g.M.Cost.Cost.kind l.labels)
+    × Reached (water g.M.Cost.Cost.kind (g.M.Measure.priced l.m) l.legs) l.home l.-round (label_of g.M.Cost.Cost.kind l.labels)

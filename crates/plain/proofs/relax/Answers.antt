@@ -18,9 +18,9 @@ returns-in-Some g c =
       idle = λ h v. absurd (h label.cost c.in-Some.cost known sum);
     }
 
-pub returns-in-default : goal.returns-in-default
-returns-in-default g c =
+pub returns-in_default : goal.returns-in_default
+returns-in_default g c =
     let label = c.index-labels-x.result in
     let known = label_known g.C.Cost.kind c.args.labels.now c.args.x label (omega arith) c.index-labels-x.is c.if-not-label.false in
-    let none = sym c.sum.ensures ∙ c.in-default.is in
+    let none = sym c.sum.ensures ∙ c.in_default.is in
     record { offered = λ d e at adds. some_none (rw (some_injective at known) at adds) none; idle = λ h v. refl }

@@ -7,12 +7,12 @@ use Rattle.plain.proofs.relax_all.Goals as goal
 
 pub loop-leg-init : goal.loop-leg-init
 loop-leg-init g c home s =
-    round_none (priced_sound g.Cost.Cost.kind (g.M.Measure.priced c.args.m.now) c.requires g.Cost.Cost.lawful (g.met.M.Measure.small c.args.m.now)) s
+    round_none (priced_sound g.M.Cost.Cost.kind (g.M.Measure.priced c.args.m.now) c.requires g.M.Cost.Cost.lawful (g.met.M.Measure.small c.args.m.now)) s
 
 pub loop-leg-preserved : goal.loop-leg-preserved
 loop-leg-preserved g c home s =
-    let S = priced_sound g.Cost.Cost.kind (g.M.Measure.priced c.args.m.now) c.requires g.Cost.Cost.lawful (g.met.M.Measure.small c.args.m.now) in
-    let W = water g.Cost.Cost.kind (g.M.Measure.priced c.args.m.now) c.args.legs.now in
+    let S = priced_sound g.M.Cost.Cost.kind (g.M.Measure.priced c.args.m.now) c.requires g.M.Cost.Cost.lawful (g.met.M.Measure.small c.args.m.now) in
+    let W = water g.M.Cost.Cost.kind (g.M.Measure.priced c.args.m.now) c.args.legs.now in
     let price = c.price-price.ensures ∙ sym (toll_is W c.loop-leg.leg-index c.loop-leg-test.true) in
     round_more S c.loop-leg-test.true (c.loop-leg.invariant home s) (rw price at c.relax-leg.ensures)
 

@@ -5,8 +5,8 @@ use Rattle.waterway.proofs.Written.{label_known, label_none, wrote}
 use Rattle.relaxing.proofs.Blanks.{clean_wrote}
 use Rattle.relaxing.proofs.bring_down.Goals as goal
 
-pub returns-in-default : goal.returns-in-default
-returns-in-default g c =
+pub returns-in_default : goal.returns-in_default
+returns-in_default g c =
     let K = g.C.Cost.kind in
     let label = c.index-labels-at.result in
     record {
@@ -15,7 +15,7 @@ returns-in-default g c =
         record {
           value = label.cost;
           is = label_known K c.args.labels.now c.args.mark label (omega arith) c.index-labels-at.is c.if-label.true;
-          upto = not_less g.C.Cost.lawful c.args.cost label.cost c.compare.result c.compare.ensures c.in-default.not-Less;
+          upto = not_less g.C.Cost.lawful c.args.cost label.cost c.compare.result c.compare.ensures c.in_default.not-Less;
         },
       );
       clean = λ clean. clean;

@@ -35,7 +35,7 @@ returns-then-not-host g c =
     let hosts = c.args.hosts.now in
     let lt : c.args.mark < length hosts = omega (arith, c.requires.matched.long, c.requires.inside) in
     let b = pivot_not K hosts c.args.mark c.index-hosts-mark.result lt c.index-hosts-mark.is c.else-host.either in
-    let f = fallen_wrote L c.bring-down.result c.bring-down.ensures.fallen c.in-default.not-Not in
+    let f = fallen_wrote L c.bring-down.result c.bring-down.ensures.fallen c.in_default.not-Not in
     let none = away_none K hosts c.args.mark c.index-hosts-mark.result lt c.index-hosts-mark.is c.if-not-host.true in
     record {
       laid = c.requires.laid;
@@ -44,16 +44,16 @@ returns-then-not-host g c =
           (outer_stop L (pivot_in K hosts) (host_in K hosts) (away_in K hosts) c.requires.matched.keyed b f.0 f.1 (λ h s e. some_none e none));
     }
 
-pub returns-in-default-sum : goal.returns-in-default-sum
-returns-in-default-sum g c =
+pub returns-in_default-sum : goal.returns-in_default-sum
+returns-in_default-sum g c =
     let K = g.C.Cost.kind in
     let L = g.C.Cost.lawful in
     let hosts = c.args.hosts.now in
     let lt : c.args.mark < length hosts = omega (arith, c.requires.matched.long, c.requires.inside) in
     let b = pivot_not K hosts c.args.mark c.index-hosts-mark.result lt c.index-hosts-mark.is c.else-host.either in
-    let f = fallen_wrote L c.bring-down.result c.bring-down.ensures.fallen c.in-default.not-Not in
+    let f = fallen_wrote L c.bring-down.result c.bring-down.ensures.fallen c.in_default.not-Not in
     let gap = away_known K hosts c.args.mark c.index-hosts-mark.result lt c.index-hosts-mark.is c.if-not-host.false in
-    let none = sym c.sum.ensures ∙ c.in-default-sum.is in
+    let none = sym c.sum.ensures ∙ c.in_default-sum.is in
     record {
       laid = c.requires.laid;
       relaxed = step_relaxed L hosts _ _ _ _ c.requires.matched c.bring-down.auto.labels
@@ -70,7 +70,7 @@ offer-requires-2 g c =
     let x = c.index-hosts-mark.result in
     let lt : c.args.mark < length hosts = omega (arith, c.requires.matched.long, c.requires.inside) in
     let b = pivot_not K hosts c.args.mark x lt c.index-hosts-mark.is c.else-host.either in
-    let f = fallen_wrote L c.bring-down.result c.bring-down.ensures.fallen c.in-default.not-Not in
+    let f = fallen_wrote L c.bring-down.result c.bring-down.ensures.fallen c.in_default.not-Not in
     let gap = away_known K hosts c.args.mark x lt c.index-hosts-mark.is c.if-not-host.false in
     let is = host_known K hosts c.args.mark x lt c.index-hosts-mark.is c.if-not-host.false in
     let i = c.requires.matched.hosted c.args.mark x.cost gap in
@@ -89,7 +89,7 @@ returns g c =
     let x = c.index-hosts-mark.result in
     let lt : c.args.mark < length hosts = omega (arith, c.requires.matched.long, c.requires.inside) in
     let b = pivot_not K hosts c.args.mark x lt c.index-hosts-mark.is c.else-host.either in
-    let f = fallen_wrote L c.bring-down.result c.bring-down.ensures.fallen c.in-default.not-Not in
+    let f = fallen_wrote L c.bring-down.result c.bring-down.ensures.fallen c.in_default.not-Not in
     let gap = away_known K hosts c.args.mark x lt c.index-hosts-mark.is c.if-not-host.false in
     let is = host_known K hosts c.args.mark x lt c.index-hosts-mark.is c.if-not-host.false in
     let i = c.requires.matched.hosted c.args.mark x.cost gap in

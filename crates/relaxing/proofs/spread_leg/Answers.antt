@@ -9,25 +9,25 @@ use Rattle.relaxing.proofs.Rows.{row_start, row_end, rows_fit, rows_run}
 use Rattle.relaxing.proofs.Spreads.{spread_leg_ran, spread_leg}
 use Rattle.relaxing.proofs.spread_leg.Goals as goal
 
-pub returns-in-default : goal.returns-in-default
-returns-in-default g c = record {
+pub returns-in_default : goal.returns-in_default
+returns-in_default g c = record {
   laid = c.requires.laid;
-  ran = ran_refl g.Cost.Cost.lawful _ _ c.requires.matched;
+  ran = ran_refl g.M.Cost.Cost.lawful _ _ c.requires.matched;
   spread = record {
-    leg = λ y l q J. absurd (c.in-default.ensures y J.free (joins_turned J).ends);
-    ball = λ y w l q e r J. absurd (c.in-default.ensures y J.free (joins_turned J).ends);
+    leg = λ y l q J. absurd (c.in_default.ensures y J.free (joins_turned J).ends);
+    ball = λ y w l q e r J. absurd (c.in_default.ensures y J.free (joins_turned J).ends);
   };
 }
 
-pub returns-in-default-add : goal.returns-in-default-add
-returns-in-default-add g c =
-    let K = g.Cost.Cost.kind in
+pub returns-in_default-add : goal.returns-in_default-add
+returns-in_default-add g c =
+    let K = g.M.Cost.Cost.kind in
     record {
       laid = c.requires.laid;
-      ran = ran_refl g.Cost.Cost.lawful _ _ c.requires.matched;
+      ran = ran_refl g.M.Cost.Cost.lawful _ _ c.requires.matched;
       spread = record {
-        leg = λ y l q J e h. some_none {a = q} (c.add.ensures ∙ then_is K (c.label-at.ensures ∙ e) (rw c.price-at-price.ensures h)) c.in-default-add.is;
-        ball = λ y w l q f r J e h B i. some_none {a = q} (c.add.ensures ∙ then_is K (c.label-at.ensures ∙ e) (rw c.price-at-price.ensures h)) c.in-default-add.is;
+        leg = λ y l q J e h. some_none {a = q} (c.add.ensures ∙ then_is K (c.label-at.ensures ∙ e) (rw c.price-at-price.ensures h)) c.in_default-add.is;
+        ball = λ y w l q f r J e h B i. some_none {a = q} (c.add.ensures ∙ then_is K (c.label-at.ensures ∙ e) (rw c.price-at-price.ensures h)) c.in_default-add.is;
       };
     }
 
@@ -62,7 +62,7 @@ spread-rows-requires g c =
 
 pub returns : goal.returns
 returns g c =
-    let S = priced_sound g.Cost.Cost.kind (g.M.Measure.priced c.args.m.now) c.requires.sea.chart g.Cost.Cost.lawful (g.met.M.Measure.small c.args.m.now) in
+    let S = priced_sound g.M.Cost.Cost.kind (g.M.Measure.priced c.args.m.now) c.requires.sea.chart g.M.Cost.Cost.lawful (g.met.M.Measure.small c.args.m.now) in
     let y_in = ends_in c.args.k c.requires.sea.chart c.requires.stands c.in-Some.ensures.1.0 in
     let lt : c.in-Some.y < length c.args.hosts.now = omega (arith, c.requires.matched.long) in
     let x = c.index-hosts-y.result in

@@ -9,7 +9,7 @@ use Rattle.relaxing.proofs.spread_out.Goals as goal
 pub loop-k-init : goal.loop-k-init
 loop-k-init g c = (
   c.requires.laid,
-  ran_refl g.Cost.Cost.lawful _ _ c.requires.matched,
+  ran_refl g.M.Cost.Cost.lawful _ _ c.requires.matched,
   record { leg = λ s sure k y l q lt. absurd (omega arith); ball = λ s sure k y w l q e r lt. absurd (omega arith) },
 )
 
@@ -25,11 +25,11 @@ spread-leg-requires g c = record {
 
 pub loop-k-preserved : goal.loop-k-preserved
 loop-k-preserved g c =
-    let S = priced_sound g.Cost.Cost.kind (g.M.Measure.priced c.args.m.now) c.requires.sea.chart g.Cost.Cost.lawful (g.met.M.Measure.small c.args.m.now) in
+    let S = priced_sound g.M.Cost.Cost.kind (g.M.Measure.priced c.args.m.now) c.requires.sea.chart g.M.Cost.Cost.lawful (g.met.M.Measure.small c.args.m.now) in
     let p = c.loop-k.invariant.1 in
     let q = c.spread_leg.ensures.ran in (
       c.spread_leg.ensures.laid,
-      ran_trans g.Cost.Cost.lawful p q,
+      ran_trans g.M.Cost.Cost.lawful p q,
       spread_legs_more S p q c.loop-k.invariant.2 (spread_leg_moved c.spread_leg.ensures.spread c.loop-k.auto.labels),
     )
 

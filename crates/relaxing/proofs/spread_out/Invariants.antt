@@ -6,5 +6,5 @@ use Rattle.relaxing.proofs.spread_out.Given as goal
 abbrev pub invariant-loop-k : goal.invariant-loop-k
 invariant-loop-k g l =
     g.Q.Queue.Laid l.queue
-    × Ran (water g.Cost.Cost.kind (g.M.Measure.priced l.m) l.legs) l.hosts l.initial.labels (g.Q.Queue.held l.initial.queue) l.labels (g.Q.Queue.held l.queue)
-    × SpreadLegs (water g.Cost.Cost.kind (g.M.Measure.priced l.m) l.legs) (length l.initial.labels) l.hosts l.initial.labels l.labels l.k l.x
+    × Ran (water g.M.Cost.Cost.kind (g.M.Measure.priced l.m) l.legs) l.hosts l.initial.labels (g.Q.Queue.held l.initial.queue) l.labels (g.Q.Queue.held l.queue)
+    × SpreadLegs (water g.M.Cost.Cost.kind (g.M.Measure.priced l.m) l.legs) (length l.initial.labels) l.hosts l.initial.labels l.labels l.k l.x

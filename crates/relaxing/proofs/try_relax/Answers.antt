@@ -7,5 +7,5 @@ returns-in-Some g c = record {
   tried = relaxed_tried g.C.Cost.lawful c.in-Some.is c.relax.ensures.relaxed;
 }
 
-pub returns-in-default : goal.returns-in-default
-returns-in-default g c = record { laid = c.requires.laid; tried = untried g.C.Cost.lawful c.in-default.is c.requires.matched }
+pub returns-in_default : goal.returns-in_default
+returns-in_default g c = record { laid = c.requires.laid; tried = untried g.C.Cost.lawful c.in_default.is c.requires.matched }

@@ -4,8 +4,8 @@ use Rattle.chartfile.specs.Faults.{sum_wrong, no_frame, bad_bytes}
 use Rattle.chartfile.proofs.Loaded.{bad_digits, bad_order}
 use Rattle.chartfile.proofs.loading.first_frame.Goals as goal
 
-pub returns-in-default : goal.returns-in-default
-returns-in-default c s = bad_digits _ _ s _ c.requires c.in-default.ensures
+pub returns-in_default : goal.returns-in_default
+returns-in_default c s = bad_digits _ _ s _ c.requires c.in_default.ensures
 
 pub returns-then-sum-of-ne0 : goal.returns-then-sum-of-ne0
 returns-then-sum-of-ne0 c s =
@@ -13,11 +13,11 @@ returns-then-sum-of-ne0 c s =
     let adds = rw whole at c.sum-of.ensures in
     bad_bytes c.in-Some.ensures.1 (sum_wrong (λ none. omega arith))
 
-pub returns-in-default-frame-of : goal.returns-in-default-frame-of
-returns-in-default-frame-of c s =
+pub returns-in_default-frame-of : goal.returns-in_default-frame-of
+returns-in_default-frame-of c s =
     let whole : c.in-Some.many - 0 ≡ c.in-Some.many = omega arith in
     let adds = rw whole at c.sum-of.ensures in
-    let none = rw whole at c.in-default-frame-of.ensures in
+    let none = rw whole at c.in_default-frame-of.ensures in
     bad_bytes c.in-Some.ensures.1 (no_frame (omega arith) (λ frame is _. none frame is))
 
 pub returns-then-not-follows : goal.returns-then-not-follows
