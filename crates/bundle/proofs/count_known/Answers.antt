@@ -12,8 +12,8 @@ some_is : {C : Type 0} (o : Option C) → is_some o ≡ true → (k : C) × (o �
 some_is None e = true_false e refl
 some_is (Some k) e = (k, refl)
 
-pub overflow-add-count : goal.overflow-add-count
-overflow-add-count g c = omega (arith, c.loop-label.invariant, tally_below (λ v. is_some (label_of g.C.Cost.kind c.args.labels.now v)) c.loop-label.label-index)
+pub overflow_add-count : goal.overflow_add-count
+overflow_add-count g c = omega (arith, c.loop-label.invariant, tally_below (λ v. is_some (label_of g.C.Cost.kind c.args.labels.now v)) c.loop-label.label-index)
 
 pub loop-label-preserved : goal.loop-label-preserved
 loop-label-preserved g c =

@@ -6,8 +6,8 @@ use Rattle.relaxing.proofs.Legs.{sea_moved, nears_more}
 use Rattle.relaxing.proofs.Rows.{row_start, row_end, rows_fit, near_read, row_inside, row_ball}
 use Rattle.bundle.proofs.from_ball.Goals as goal
 
-pub offset-bounds-near-j : goal.offset-bounds-near-j
-offset-bounds-near-j g c =
+pub offset_bounds-near-j : goal.offset_bounds-near-j
+offset_bounds-near-j g c =
     let lt : c.args.to < length c.args.hosts.now = omega (arith, c.requires.matched.long, c.requires.inside) in
     omega (arith, rows_fit c.requires.balled c.args.to c.index-hosts-to.result lt c.index-hosts-to.is)
 
@@ -24,8 +24,8 @@ loop-j-init g c =
       record { each = λ j lo hi. absurd (omega (arith, row_start c.requires.balled c.args.to c.index-hosts-to.result lt c.index-hosts-to.is)) },
     )
 
-pub from-near-requires : goal.from-near-requires
-from-near-requires g c =
+pub from_near-requires : goal.from_near-requires
+from_near-requires g c =
     let S = priced_sound g.M.Cost.Cost.kind (g.M.Measure.priced c.args.m.now) c.requires.sea.chart g.M.Cost.Cost.lawful (g.met.M.Measure.small c.args.m.now) in
     let lt : c.args.to < length c.args.hosts.now = omega (arith, c.requires.matched.long, c.requires.inside) in
     let x = c.index-hosts-to.result in
@@ -46,11 +46,11 @@ loop-j-preserved g c =
     let x = c.index-hosts-to.result in
     let y = c.index-near-j.result in
     let p = c.loop-j.invariant.1 in
-    let q = c.from-near.ensures.ran in
+    let q = c.from_near.ensures.ran in
     let is = near_read c.requires.balled c.args.to x lt c.index-hosts-to.is c.loop-j.j y c.loop-j.auto.j c.loop-j-test.true c.index-near-j.is in (
-      c.from-near.ensures.laid,
+      c.from_near.ensures.laid,
       ran_trans g.M.Cost.Cost.lawful p q,
-      nears_more S p q c.loop-j.invariant.2 (rw is c.from-near.ensures.offered),
+      nears_more S p q c.loop-j.invariant.2 (rw is c.from_near.ensures.offered),
     )
 
 pub returns : goal.returns

@@ -3,8 +3,8 @@ use Rattle.relaxing.proofs.Runs.{ran_refl}
 use Rattle.relaxing.proofs.Rows.{mine_is, mine_not}
 use Rattle.bundle.proofs.gather_if.Goals as goal
 
-pub overflow-cast-v : goal.overflow-cast-v
-overflow-cast-v g c = omega (arith, c.requires.sea.chart.few, c.requires.inside)
+pub overflow_cast-v : goal.overflow_cast-v
+overflow_cast-v g c = omega (arith, c.requires.sea.chart.few, c.requires.inside)
 
 pub gather-requires : goal.gather-requires
 gather-requires g c =

@@ -13,8 +13,8 @@ returns-in_default g c = record {
   offered = record { each = λ z l q r J. absurd (c.in_default.ensures z J.free J.ends) };
 }
 
-pub label-at-requires : goal.label-at-requires
-label-at-requires g c = ends_in c.args.k c.requires.sea.chart c.requires.stands c.in-Some.ensures.1.0
+pub label_at-requires : goal.label_at-requires
+label_at-requires g c = ends_in c.args.k c.requires.sea.chart c.requires.stands c.in-Some.ensures.1.0
 
 pub returns : goal.returns
 returns g c =
@@ -24,10 +24,10 @@ returns g c =
     let f = c.in-Some.ensures in
     let J : Joins c.args.legs.now c.args.k c.in-Some.far c.args.into = record { stands = c.requires.stands; free = f.0; ends = f.1.0 } in
     record {
-      laid = c.try-relax.ensures.laid;
-      ran = leg_ran S c.requires.sea.housed J c.requires.away c.add.ensures c.add-first.ensures c.label-at.ensures c.price-at-price.ensures c.try-relax.ensures.tried;
+      laid = c.try_relax.ensures.laid;
+      ran = leg_ran S c.requires.sea.housed J c.requires.away c.add.ensures c.add-first.ensures c.label_at.ensures c.price_at-price.ensures c.try_relax.ensures.tried;
       offered = record {
-        each = λ z l q r J' e. leg_offered S c.requires.sea.housed J c.requires.away c.add.ensures c.add-first.ensures c.label-at.ensures c.price-at-price.ensures c.try-relax.ensures.tried l q r
+        each = λ z l q r J' e. leg_offered S c.requires.sea.housed J c.requires.away c.add.ensures c.add-first.ensures c.label_at.ensures c.price_at-price.ensures c.try_relax.ensures.tried l q r
             (rw (f.1.1 z J'.ends) at e);
       };
     }

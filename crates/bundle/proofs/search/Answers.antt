@@ -38,8 +38,8 @@ loop-u-init g c =
       refl,
     )
 
-pub step-one-requires : goal.step-one-requires
-step-one-requires g c =
+pub step_one-requires : goal.step_one-requires
+step_one-requires g c =
     let K = g.M.Cost.Cost.kind in
     let priced = g.M.Measure.priced c.args.m.now in
     let long : length c.offer.new.labels ≡ length c.args.labels.now = c.offer.auto.labels ∙ c.blank.auto.labels in
@@ -54,8 +54,8 @@ step-one-requires g c =
       balled = balled_moved (balled_moved c.requires.balled long) c.loop-u.auto.labels;
     }
 
-pub step-two-requires : goal.step-two-requires
-step-two-requires g c =
+pub step_two-requires : goal.step_two-requires
+step_two-requires g c =
     let K = g.M.Cost.Cost.kind in
     let priced = g.M.Measure.priced c.args.m.now in
     let long : length c.offer.new.labels ≡ length c.args.labels.now = c.offer.auto.labels ∙ c.blank.auto.labels in
@@ -63,10 +63,10 @@ step-two-requires g c =
     let S = priced_sound K priced sea.chart g.M.Cost.Cost.lawful (g.met.M.Measure.small c.args.m.now) in
     let dear = priced_dear K priced sea.chart (g.met.M.Measure.dear c.args.m.now) in
     record {
-      laid = c.step-one.ensures.laid;
-      matched = c.step-one.ensures.ran.matched;
-      sea = sea_moved sea (c.step-one.auto.labels ∙ c.loop-u.auto.labels);
-      balled = balled_moved (balled_moved c.requires.balled long) (c.step-one.auto.labels ∙ c.loop-u.auto.labels);
+      laid = c.step_one.ensures.laid;
+      matched = c.step_one.ensures.ran.matched;
+      sea = sea_moved sea (c.step_one.auto.labels ∙ c.loop-u.auto.labels);
+      balled = balled_moved (balled_moved c.requires.balled long) (c.step_one.auto.labels ∙ c.loop-u.auto.labels);
     }
 
 pub loop-u-smaller : goal.loop-u-smaller
@@ -78,14 +78,14 @@ loop-u-smaller g c =
     let S = priced_sound K priced sea.chart g.M.Cost.Cost.lawful (g.met.M.Measure.small c.args.m.now) in
     let dear = priced_dear K priced sea.chart (g.met.M.Measure.dear c.args.m.now) in
     let d = c.in-Some.ensures in
-    let one = step_one_moved c.step-one.ensures.gathered (c.step-one.auto.labels ∙ c.loop-u.auto.labels) in
-    let two = step_two_moved c.step-two.ensures.spread (c.step-one.auto.labels ∙ c.loop-u.auto.labels) (c.step-two.auto.labels ∙ (c.step-one.auto.labels ∙ c.loop-u.auto.labels)) in
+    let one = step_one_moved c.step_one.ensures.gathered (c.step_one.auto.labels ∙ c.loop-u.auto.labels) in
+    let two = step_two_moved c.step_two.ensures.spread (c.step_one.auto.labels ∙ c.loop-u.auto.labels) (c.step_two.auto.labels ∙ (c.step_one.auto.labels ∙ c.loop-u.auto.labels)) in
     let balled = balled_moved c.requires.balled long in
     let lt : c.in-Some.u < length c.offer.new.labels = drawn_inside S dear sea.housed c.args.home c.requires.pivot c.loop-u.invariant.1 (c.loop-u.invariant.2 S dear sea.housed c.requires.pivot) d.answer in
     let room = tally_room S dear sea.housed c.args.home c.requires.pivot c.loop-u.invariant.1 (c.loop-u.invariant.2 S dear sea.housed c.requires.pivot) d.answer d.after balled
-    c.step-one.ensures.ran one c.step-two.ensures.ran two lt in
+    c.step_one.ensures.ran one c.step_two.ensures.ran two lt in
     let up = tally_turned S dear sea.housed c.args.home c.requires.pivot c.loop-u.invariant.1 (c.loop-u.invariant.2 S dear sea.housed c.requires.pivot) d.answer d.after balled
-    c.step-one.ensures.ran one c.step-two.ensures.ran two lt in
+    c.step_one.ensures.ran one c.step_two.ensures.ran two lt in
     omega (arith, up, room)
 
 pub loop-u-preserved : goal.loop-u-preserved
@@ -97,20 +97,20 @@ loop-u-preserved g c =
     let S = priced_sound K priced sea.chart g.M.Cost.Cost.lawful (g.met.M.Measure.small c.args.m.now) in
     let dear = priced_dear K priced sea.chart (g.met.M.Measure.dear c.args.m.now) in
     let d = c.in-Some.ensures in
-    let one = step_one_moved c.step-one.ensures.gathered (c.step-one.auto.labels ∙ c.loop-u.auto.labels) in
-    let two = step_two_moved c.step-two.ensures.spread (c.step-one.auto.labels ∙ c.loop-u.auto.labels) (c.step-two.auto.labels ∙ (c.step-one.auto.labels ∙ c.loop-u.auto.labels)) in
+    let one = step_one_moved c.step_one.ensures.gathered (c.step_one.auto.labels ∙ c.loop-u.auto.labels) in
+    let two = step_two_moved c.step_two.ensures.spread (c.step_one.auto.labels ∙ c.loop-u.auto.labels) (c.step_two.auto.labels ∙ (c.step_one.auto.labels ∙ c.loop-u.auto.labels)) in
     let balled = balled_moved c.requires.balled long in
     let lt : c.in-Some.u < length c.offer.new.labels = drawn_inside S dear sea.housed c.args.home c.requires.pivot c.loop-u.invariant.1 (c.loop-u.invariant.2 S dear sea.housed c.requires.pivot) d.answer in
     let up = tally_turned S dear sea.housed c.args.home c.requires.pivot c.loop-u.invariant.1 (c.loop-u.invariant.2 S dear sea.housed c.requires.pivot) d.answer d.after balled
-    c.step-one.ensures.ran one c.step-two.ensures.ran two lt in
+    c.step_one.ensures.ran one c.step_two.ensures.ran two lt in
     let room = tally_room S dear sea.housed c.args.home c.requires.pivot c.loop-u.invariant.1 (c.loop-u.invariant.2 S dear sea.housed c.requires.pivot) d.answer d.after balled
-    c.step-one.ensures.ran one c.step-two.ensures.ran two lt in (
-      c.step-two.ensures.laid,
-      c.step-two.ensures.ran.matched,
+    c.step_one.ensures.ran one c.step_two.ensures.ran two lt in (
+      c.step_two.ensures.laid,
+      c.step_two.ensures.ran.matched,
       λ S dear housed pivot. ready_turned S dear housed c.args.home pivot c.loop-u.invariant.1 (c.loop-u.invariant.2 S dear housed pivot) d.answer d.after balled
-          c.step-one.ensures.ran one c.step-two.ensures.ran two,
-      omega (arith, up, room, c.step-two.ensures.ran.steady.draws, c.step-one.ensures.ran.steady.draws, d.after.draws, c.loop-u.invariant.3, sea.chart.few),
-      omega (arith, c.step-two.ensures.ran.steady.span, c.step-one.ensures.ran.steady.span, d.after.span, c.loop-u.invariant.4),
+          c.step_one.ensures.ran one c.step_two.ensures.ran two,
+      omega (arith, up, room, c.step_two.ensures.ran.steady.draws, c.step_one.ensures.ran.steady.draws, d.after.draws, c.loop-u.invariant.3, sea.chart.few),
+      omega (arith, c.step_two.ensures.ran.steady.span, c.step_one.ensures.ran.steady.span, d.after.span, c.loop-u.invariant.4),
     )
 
 pub returns : goal.returns

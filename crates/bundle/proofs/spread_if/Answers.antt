@@ -3,11 +3,11 @@ use Rattle.relaxing.proofs.Runs.{ran_refl}
 use Rattle.relaxing.proofs.Rows.{mine_not}
 use Rattle.bundle.proofs.spread_if.Goals as goal
 
-pub overflow-cast-x : goal.overflow-cast-x
-overflow-cast-x g c = omega (arith, c.requires.sea.chart.few, c.requires.inside)
+pub overflow_cast-x : goal.overflow_cast-x
+overflow_cast-x g c = omega (arith, c.requires.sea.chart.few, c.requires.inside)
 
-pub spread-out-requires : goal.spread-out-requires
-spread-out-requires g c =
+pub spread_out-requires : goal.spread_out-requires
+spread_out-requires g c =
     let lt : c.args.x < length c.args.hosts.now = omega (arith, c.requires.matched.long, c.requires.inside) in
     record {
       laid = c.requires.laid;
@@ -19,9 +19,9 @@ spread-out-requires g c =
 
 pub returns-then-host-u : goal.returns-then-host-u
 returns-then-host-u g c = record {
-  laid = c.spread-out.ensures.laid;
-  ran = c.spread-out.ensures.ran;
-  spread = λ mine. c.spread-out.ensures.spread;
+  laid = c.spread_out.ensures.laid;
+  ran = c.spread_out.ensures.ran;
+  spread = λ mine. c.spread_out.ensures.spread;
 }
 
 pub returns-else-host : goal.returns-else-host

@@ -8,8 +8,8 @@ use Rattle.bundle.proofs.step_one.Goals as goal
 pub loop-v-init : goal.loop-v-init
 loop-v-init g c = (c.requires.laid, ran_refl g.M.Cost.Cost.lawful _ _ c.requires.matched, record { each = λ v lt. absurd (omega arith) })
 
-pub gather-if-requires : goal.gather-if-requires
-gather-if-requires g c = record {
+pub gather_if-requires : goal.gather_if-requires
+gather_if-requires g c = record {
   laid = c.loop-v.invariant.0;
   matched = c.loop-v.invariant.1.matched;
   sea = sea_moved c.requires.sea c.loop-v.auto.labels;
@@ -21,10 +21,10 @@ pub loop-v-preserved : goal.loop-v-preserved
 loop-v-preserved g c =
     let S = priced_sound g.M.Cost.Cost.kind (g.M.Measure.priced c.args.m.now) c.requires.sea.chart g.M.Cost.Cost.lawful (g.met.M.Measure.small c.args.m.now) in
     let p = c.loop-v.invariant.1 in
-    let q = c.gather-if.ensures.ran in (
-      c.gather-if.ensures.laid,
+    let q = c.gather_if.ensures.ran in (
+      c.gather_if.ensures.laid,
       ran_trans g.M.Cost.Cost.lawful p q,
-      step_one_more S p q c.loop-v.invariant.2 c.gather-if.ensures.gathered,
+      step_one_more S p q c.loop-v.invariant.2 c.gather_if.ensures.gathered,
     )
 
 pub returns : goal.returns

@@ -27,8 +27,8 @@ answer_moved : {C : Type 0} {K : Kind C} (W : Water K) {n m : ℕ} (pivot : ℕ 
     → Answer W n pivot home near labels h h' o → n ≡ m → labels' ≡ labels → Answer W m pivot home near labels' h h' o
 answer_moved W pivot home near h h' o a e f = rw (f, sym e) a
 
-pub find-all-requires : goal.find-all-requires
-find-all-requires g c =
+pub find_all-requires : goal.find_all-requires
+find_all-requires g c =
     let n = length c.args.pivots.now in
     let long = part c.args.labels.now n c.requires.labels in
     record {
@@ -45,8 +45,8 @@ pub returns : goal.returns
 returns g c =
     let n = length c.args.pivots.now in
     let long = part c.args.labels.now n c.requires.labels in
-    let same = c.find-all.auto.labels ∙ long in
+    let same = c.find_all.auto.labels ∙ long in
     record {
-      answer = answer_moved _ _ _ _ _ _ c.find-all.result c.find-all.ensures long (first c.find-all.new.labels _ n same);
-      later = later c.find-all.new.labels c.args.labels.now n same;
+      answer = answer_moved _ _ _ _ _ _ c.find_all.result c.find_all.ensures long (first c.find_all.new.labels _ n same);
+      later = later c.find_all.new.labels c.args.labels.now n same;
     }

@@ -4,5 +4,5 @@ use Rattle.calls.proofs.perform.Goals as goal
 
 pub returns-in-Write : goal.returns-in-Write
 returns-in-Write g c =
-    let lent = c.as-mut-slice.ensures in
-    rw (c.in-Write.is, with_items_is c.in-Write.buffer c.write-file.new.buffer (omega arith)) (rw lent.value at c.write-file.ensures, refl)
+    let lent = c.as_mut_slice.ensures in
+    rw (c.in-Write.is, with_items_is c.in-Write.buffer c.write_file.new.buffer (omega arith)) (rw lent.value at c.write_file.ensures, refl)

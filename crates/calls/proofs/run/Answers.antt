@@ -10,7 +10,7 @@ loop-call-preserved g c =
     let standing = c.loop-call.calls in
     let i = c.loop-call.call-index in
     let same = c.loop-call.invariant.0 in
-    let pushed = chosen _ _ _ _ c.push.ensures.items (ap is_ok c.in-ok-push.was) in (
+    let pushed = chosen _ _ _ _ c.push.ensures.items (ap is_ok c.in_ok-push.was) in (
       same_rest was standing i (omega arith) same _,
       λ rest answers told.
           rw (pushed, take_more_set standing i c.perform.new.call (omega arith), append_assoc, append_assoc)

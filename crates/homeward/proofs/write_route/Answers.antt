@@ -20,8 +20,8 @@ loop-mark-init g c =
       omega arith,
     )
 
-pub overflow-cast-step : goal.overflow-cast-step
-overflow-cast-step g c =
+pub overflow_cast-step : goal.overflow_cast-step
+overflow_cast-step g c =
     let K = g.M.Cost.Cost.kind in
     let priced = g.M.Measure.priced c.args.m.now in
     let S = priced_sound K priced c.requires.chart g.M.Cost.Cost.lawful (g.met.M.Measure.small c.args.m.now) in
@@ -29,8 +29,8 @@ overflow-cast-step g c =
     let lt : c.loop-mark.mark < length c.args.steps.now = mark_in S dear c.args.home c.loop-mark-test.true c.loop-mark.invariant.1 in
     omega (arith, c.requires.chart.few)
 
-pub offset-bounds-steps-mark : goal.offset-bounds-steps-mark
-offset-bounds-steps-mark g c =
+pub offset_bounds-steps-mark : goal.offset_bounds-steps-mark
+offset_bounds-steps-mark g c =
     let K = g.M.Cost.Cost.kind in
     let priced = g.M.Measure.priced c.args.m.now in
     let S = priced_sound K priced c.requires.chart g.M.Cost.Cost.lawful (g.met.M.Measure.small c.args.m.now) in
@@ -47,8 +47,8 @@ bounds-steps-mark g c =
     let lt : c.loop-mark.mark < length c.args.steps.now = mark_in S dear c.args.home c.loop-mark-test.true c.loop-mark.invariant.1 in
     lt
 
-pub overflow-sub-at : goal.overflow-sub-at
-overflow-sub-at g c =
+pub overflow_sub-at : goal.overflow_sub-at
+overflow_sub-at g c =
     let K = g.M.Cost.Cost.kind in
     let priced = g.M.Measure.priced c.args.m.now in
     let S = priced_sound K priced c.requires.chart g.M.Cost.Cost.lawful (g.met.M.Measure.small c.args.m.now) in

@@ -23,10 +23,10 @@ returns-in_default g c =
     let dear = priced_dear K priced c.requires.chart (g.met.M.Measure.dear c.args.m.now) in
     let pivots = c.args.pivots.now in
     let near = c.args.near.now in
-    let h = nearest_moved K pivots c.look-round.new.labels None c.in_default.ensures c.look-round.auto.labels in
+    let h = nearest_moved K pivots c.look_round.new.labels None c.in_default.ensures c.look_round.auto.labels in
     record {
-      span = c.look-round.ensures.span;
-      made = rw c.zero-in_default.ensures (made_none S dear pivots c.args.v c.requires.inside c.args.start near c.look-round.ensures.around c.if-pivots-v.false h);
+      span = c.look_round.ensures.span;
+      made = rw c.zero-in_default.ensures (made_none S dear pivots c.args.v c.requires.inside c.args.start near c.look_round.ensures.around c.if-pivots-v.false h);
     }
 
 pub returns : goal.returns
@@ -38,9 +38,9 @@ returns g c =
     let dear = priced_dear K priced c.requires.chart (g.met.M.Measure.dear c.args.m.now) in
     let pivots = c.args.pivots.now in
     let near = c.args.near.now in
-    let h = nearest_moved K pivots c.look-round.new.labels (Some c.in-Some.best) c.in-Some.ensures c.look-round.auto.labels in
+    let h = nearest_moved K pivots c.look_round.new.labels (Some c.in-Some.best) c.in-Some.ensures c.look_round.auto.labels in
     record {
-      span = c.look-round.ensures.span;
-      made = made_some S dear pivots c.args.v c.requires.inside c.args.start near c.look-round.ensures.around c.if-pivots-v.false c.in-Some.best
-          c.write-rows-end.new.near c.write-rows-end.result h (written_moved c.write-rows-end.ensures c.look-round.auto.labels);
+      span = c.look_round.ensures.span;
+      made = made_some S dear pivots c.args.v c.requires.inside c.args.start near c.look_round.ensures.around c.if-pivots-v.false c.in-Some.best
+          c.write_rows-end.new.near c.write_rows-end.result h (written_moved c.write_rows-end.ensures c.look_round.auto.labels);
     }

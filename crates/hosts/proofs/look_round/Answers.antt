@@ -45,8 +45,8 @@ loop-drawn-init g c =
       refl,
     )
 
-pub spread-out-requires : goal.spread-out-requires
-spread-out-requires g c =
+pub spread_out-requires : goal.spread_out-requires
+spread_out-requires g c =
     let K = g.M.Cost.Cost.kind in
     let L = g.M.Cost.Cost.lawful in
     let priced = g.M.Measure.priced c.args.m.now in
@@ -88,10 +88,10 @@ loop-drawn-smaller g c =
     let lt : c.in-Some.drawn.0 < length c.offer.new.labels = drawn_inside S dear housed v piv c.loop-drawn.invariant.1 ready d.answer in
     let still_matched = matched_drawn S dear housed v piv c.loop-drawn.invariant.1 ready d.answer d.after in
     let one = one_self own S dear c.loop-drawn.labels c.in-Some.drawn.0 in
-    let two = two_self own S dear c.in-Some.drawn.0 (spread_legs_moved c.spread-out.ensures.spread c.loop-drawn.auto.labels) in
+    let two = two_self own S dear c.in-Some.drawn.0 (spread_legs_moved c.spread_out.ensures.spread c.loop-drawn.auto.labels) in
     let p = ran_refl L c.loop-drawn.labels (g.Q.Queue.held c.draw.new.self) still_matched in
-    let up = tally_turned S dear housed v piv c.loop-drawn.invariant.1 ready d.answer d.after (selves_balled own S dear) p one c.spread-out.ensures.ran two lt in
-    let room = tally_room S dear housed v piv c.loop-drawn.invariant.1 ready d.answer d.after (selves_balled own S dear) p one c.spread-out.ensures.ran two lt in
+    let up = tally_turned S dear housed v piv c.loop-drawn.invariant.1 ready d.answer d.after (selves_balled own S dear) p one c.spread_out.ensures.ran two lt in
+    let room = tally_room S dear housed v piv c.loop-drawn.invariant.1 ready d.answer d.after (selves_balled own S dear) p one c.spread_out.ensures.ran two lt in
     omega (arith, up, room)
 
 pub loop-drawn-preserved : goal.loop-drawn-preserved
@@ -113,18 +113,18 @@ loop-drawn-preserved g c =
     let lt : c.in-Some.drawn.0 < length c.offer.new.labels = drawn_inside S dear housed v piv c.loop-drawn.invariant.1 ready d.answer in
     let still_matched = matched_drawn S dear housed v piv c.loop-drawn.invariant.1 ready d.answer d.after in
     let one = one_self own S dear c.loop-drawn.labels c.in-Some.drawn.0 in
-    let two = two_self own S dear c.in-Some.drawn.0 (spread_legs_moved c.spread-out.ensures.spread c.loop-drawn.auto.labels) in
+    let two = two_self own S dear c.in-Some.drawn.0 (spread_legs_moved c.spread_out.ensures.spread c.loop-drawn.auto.labels) in
     let p = ran_refl L c.loop-drawn.labels (g.Q.Queue.held c.draw.new.self) still_matched in (
-      c.spread-out.ensures.laid,
-      c.spread-out.ensures.ran.matched,
+      c.spread_out.ensures.laid,
+      c.spread_out.ensures.ran.matched,
       λ S' dear' housed' pivot. ready_turned S' dear' housed' v pivot c.loop-drawn.invariant.1 (c.loop-drawn.invariant.2 S' dear' housed' pivot) d.answer d.after (selves_balled own S dear)
-          p one c.spread-out.ensures.ran two,
+          p one c.spread_out.ensures.ran two,
       found_more own S dear v v_in c.loop-drawn.invariant.1 ready c.args.pivots.now d.answer c.loop-drawn.invariant.3 lt c.better-best.ensures,
-      omega (arith, c.spread-out.ensures.ran.steady.span, d.after.span, c.loop-drawn.invariant.4),
+      omega (arith, c.spread_out.ensures.ran.steady.span, d.after.span, c.loop-drawn.invariant.4),
     )
 
-pub returns-then-is-past : goal.returns-then-is-past
-returns-then-is-past g c =
+pub returns-then-is_past : goal.returns-then-is_past
+returns-then-is_past g c =
     let K = g.M.Cost.Cost.kind in
     let L = g.M.Cost.Cost.lawful in
     let priced = g.M.Measure.priced c.args.m.now in
@@ -139,7 +139,7 @@ returns-then-is-past g c =
     let piv = self_pivot own v v_in in
     let d = c.in-Some.ensures in
     let ready = c.loop-drawn.invariant.2 S dear housed piv in
-    record { span = omega (arith, d.after.span, c.loop-drawn.invariant.4, c.offer.ensures.steady.span, c.clear.ensures.after.span); around = around_moved (around_past own S dear v v_in c.loop-drawn.invariant.1 ready c.args.pivots.now d.answer c.loop-drawn.best c.loop-drawn.invariant.3 c.if-is-past.ensures) long }
+    record { span = omega (arith, d.after.span, c.loop-drawn.invariant.4, c.offer.ensures.steady.span, c.clear.ensures.after.span); around = around_moved (around_past own S dear v v_in c.loop-drawn.invariant.1 ready c.args.pivots.now d.answer c.loop-drawn.best c.loop-drawn.invariant.3 c.if-is_past.ensures) long }
 
 pub returns-in_default : goal.returns-in_default
 returns-in_default g c =

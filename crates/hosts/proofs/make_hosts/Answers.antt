@@ -9,8 +9,8 @@ use Rattle.hosts.proofs.make_hosts.Goals as goal
 pub loop-v-init : goal.loop-v-init
 loop-v-init g c = (refl, omega arith, hosts_none c.args.hosts.now c.args.near.now c.args.near.now 0 0 (no_host g.M.Cost.Cost.kind))
 
-pub local-host-host-requires : goal.local-host-host-requires
-local-host-host-requires g c = record {
+pub local_host-host-requires : goal.local_host-host-requires
+local_host-host-requires g c = record {
   span = omega (arith, c.loop-v.invariant.0, c.requires.span, c.loop-v.auto.labels);
   chart = chart_moved c.requires.chart c.loop-v.auto.labels;
   selves = selves_moved c.requires.selves c.loop-v.auto.labels;
@@ -21,11 +21,11 @@ local-host-host-requires g c = record {
 
 pub loop-v-preserved : goal.loop-v-preserved
 loop-v-preserved g c =
-    let made = made_moved c.local-host-host.ensures.made c.loop-v.auto.labels in (
-      c.local-host-host.ensures.span ∙ c.loop-v.invariant.0,
+    let made = made_moved c.local_host-host.ensures.made c.loop-v.auto.labels in (
+      c.local_host-host.ensures.span ∙ c.loop-v.invariant.0,
       omega (arith, made.short, made.ends, c.loop-v.invariant.1, c.requires.chart.few),
-      hosts_more c.loop-v.hosts c.loop-v.near c.local-host-host.new.near c.loop-v.v c.loop-v.at c.local-host-host.result
-          (omega (arith, c.loop-v.auto.hosts, c.loop-v-test.true)) c.local-host-host.auto.near c.loop-v.invariant.2 made,
+      hosts_more c.loop-v.hosts c.loop-v.near c.local_host-host.new.near c.loop-v.v c.loop-v.at c.local_host-host.result
+          (omega (arith, c.loop-v.auto.hosts, c.loop-v-test.true)) c.local_host-host.auto.near c.loop-v.invariant.2 made,
     )
 
 pub returns : goal.returns
@@ -38,13 +38,13 @@ returns g c =
     let long : length c.loop-v.hosts ≡ length c.args.labels.now = omega (arith, c.loop-v.auto.hosts, c.requires.hosts) in
     let done = all_made c.loop-v.invariant.2 (omega (arith, c.loop-v-test.false, c.loop-v.auto.v-end, c.requires.hosts)) in
     let pivots = c.args.pivots.now in
-    let near = c.blank-rows.new.near in
-    let blanks = c.blank-rows.ensures in
-    let all = hosts_kept c.loop-v.hosts c.loop-v.near near (length c.args.labels.now) c.loop-v.at c.blank-rows.auto.near blanks.before done in
+    let near = c.blank_rows.new.near in
+    let blanks = c.blank_rows.ensures in
+    let all = hosts_kept c.loop-v.hosts c.loop-v.near near (length c.args.labels.now) c.loop-v.at c.blank_rows.auto.near blanks.before done in
     record {
       span = c.loop-v.invariant.0;
       needed = record { rows = done.rows; balls = done.balls; many = done.many };
-      table = λ room. near_table c.loop-v.hosts c.loop-v.near near (length c.args.labels.now) c.loop-v.at c.blank-rows.auto.near blanks.before room done blanks.blank;
+      table = λ room. near_table c.loop-v.hosts c.loop-v.near near (length c.args.labels.now) c.loop-v.at c.blank_rows.auto.near blanks.before room done blanks.blank;
       housed = λ room. all_housed S dear pivots c.loop-v.hosts near c.loop-v.at long c.requires.long all room;
       balled = λ room. all_balled S dear pivots c.loop-v.hosts near c.loop-v.at long c.requires.long all room;
       pivots = λ room. same_pivots S dear pivots c.loop-v.hosts near c.loop-v.at long c.requires.long all room;

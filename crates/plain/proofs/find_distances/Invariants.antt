@@ -8,4 +8,4 @@ use Rattle.plain.proofs.find_distances.Given as goal
 abbrev pub invariant-loop-round : goal.invariant-loop-round
 invariant-loop-round g l =
     Sure (water g.M.Cost.Cost.kind (g.M.Measure.priced l.m) l.legs) l.home (label_of g.M.Cost.Cost.kind l.labels)
-    × Reached (water g.M.Cost.Cost.kind (g.M.Measure.priced l.m) l.legs) l.home l.-round (label_of g.M.Cost.Cost.kind l.labels)
+    × Reached (water g.M.Cost.Cost.kind (g.M.Measure.priced l.m) l.legs) l.home l._round (label_of g.M.Cost.Cost.kind l.labels)

@@ -14,7 +14,7 @@ loop-leg-preserved g c home s =
     let S = priced_sound g.M.Cost.Cost.kind (g.M.Measure.priced c.args.m.now) c.requires g.M.Cost.Cost.lawful (g.met.M.Measure.small c.args.m.now) in
     let W = water g.M.Cost.Cost.kind (g.M.Measure.priced c.args.m.now) c.args.legs.now in
     let price = c.price-price.ensures ∙ sym (toll_is W c.loop-leg.leg-index c.loop-leg-test.true) in
-    round_more S c.loop-leg-test.true (c.loop-leg.invariant home s) (rw price at c.relax-leg.ensures)
+    round_more S c.loop-leg-test.true (c.loop-leg.invariant home s) (rw price at c.relax_leg.ensures)
 
 pub returns : goal.returns
 returns g c home s =

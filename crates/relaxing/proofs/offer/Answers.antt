@@ -8,7 +8,7 @@ returns-in-Not g c =
     record {
       laid = c.requires.laid;
       steady = record { span = refl; draws = refl };
-      clean = c.bring-down.ensures.clean;
+      clean = c.bring_down.ensures.clean;
       offered = offered_not g.C.Cost.lawful c.requires.agrees f.0 f.1 (λ v. refl);
     }
 
@@ -21,7 +21,7 @@ returns-in-First g c =
     record {
       laid = e.laid;
       steady = setting_steady h h' c.args.mark c.args.cost c.put.result e.after;
-      clean = c.bring-down.ensures.clean;
+      clean = c.bring_down.ensures.clean;
       offered = put_offered g.C.Cost.lawful h h' c.requires.agrees f.1 (omega (arith, c.requires.span, c.requires.inside)) c.put.result e.answer e.after f.0;
     }
 
@@ -34,6 +34,6 @@ returns-in-Again g c =
     record {
       laid = e.laid;
       steady = setting_steady h h' c.args.mark c.args.cost c.lower.result e.after;
-      clean = c.bring-down.ensures.clean;
+      clean = c.bring_down.ensures.clean;
       offered = lower_offered g.C.Cost.lawful h h' c.requires.agrees f.1.1 (omega (arith, c.requires.span, c.requires.inside)) c.lower.result e.answer e.after f.1.0 f.0;
     }

@@ -23,8 +23,8 @@ returns-in-Not g c =
     let f = c.in-Not.ensures.fallen in
     record {
       laid = c.requires.laid;
-      relaxed = step_relaxed g.C.Cost.lawful c.args.hosts.now _ _ _ _ c.requires.matched c.bring-down.auto.labels
-          (record { span = refl; draws = refl }) (c.bring-down.ensures.clean c.requires.matched.clean)
+      relaxed = step_relaxed g.C.Cost.lawful c.args.hosts.now _ _ _ _ c.requires.matched c.bring_down.auto.labels
+          (record { span = refl; draws = refl }) (c.bring_down.ensures.clean c.requires.matched.clean)
           (not_step g.C.Cost.lawful _ _ _ c.requires.matched.keyed f.0 f.1);
     }
 
@@ -35,12 +35,12 @@ returns-then-not-host g c =
     let hosts = c.args.hosts.now in
     let lt : c.args.mark < length hosts = omega (arith, c.requires.matched.long, c.requires.inside) in
     let b = pivot_not K hosts c.args.mark c.index-hosts-mark.result lt c.index-hosts-mark.is c.else-host.either in
-    let f = fallen_wrote L c.bring-down.result c.bring-down.ensures.fallen c.in_default.not-Not in
+    let f = fallen_wrote L c.bring_down.result c.bring_down.ensures.fallen c.in_default.not-Not in
     let none = away_none K hosts c.args.mark c.index-hosts-mark.result lt c.index-hosts-mark.is c.if-not-host.true in
     record {
       laid = c.requires.laid;
-      relaxed = step_relaxed L hosts _ _ _ _ c.requires.matched c.bring-down.auto.labels
-          (record { span = refl; draws = refl }) (c.bring-down.ensures.clean c.requires.matched.clean)
+      relaxed = step_relaxed L hosts _ _ _ _ c.requires.matched c.bring_down.auto.labels
+          (record { span = refl; draws = refl }) (c.bring_down.ensures.clean c.requires.matched.clean)
           (outer_stop L (pivot_in K hosts) (host_in K hosts) (away_in K hosts) c.requires.matched.keyed b f.0 f.1 (λ h s e. some_none e none));
     }
 
@@ -51,13 +51,13 @@ returns-in_default-sum g c =
     let hosts = c.args.hosts.now in
     let lt : c.args.mark < length hosts = omega (arith, c.requires.matched.long, c.requires.inside) in
     let b = pivot_not K hosts c.args.mark c.index-hosts-mark.result lt c.index-hosts-mark.is c.else-host.either in
-    let f = fallen_wrote L c.bring-down.result c.bring-down.ensures.fallen c.in_default.not-Not in
+    let f = fallen_wrote L c.bring_down.result c.bring_down.ensures.fallen c.in_default.not-Not in
     let gap = away_known K hosts c.args.mark c.index-hosts-mark.result lt c.index-hosts-mark.is c.if-not-host.false in
     let none = sym c.sum.ensures ∙ c.in_default-sum.is in
     record {
       laid = c.requires.laid;
-      relaxed = step_relaxed L hosts _ _ _ _ c.requires.matched c.bring-down.auto.labels
-          (record { span = refl; draws = refl }) (c.bring-down.ensures.clean c.requires.matched.clean)
+      relaxed = step_relaxed L hosts _ _ _ _ c.requires.matched c.bring_down.auto.labels
+          (record { span = refl; draws = refl }) (c.bring_down.ensures.clean c.requires.matched.clean)
           (outer_stop L (pivot_in K hosts) (host_in K hosts) (away_in K hosts) c.requires.matched.keyed b f.0 f.1
           (λ h s e p. some_none (rw (some_injective e gap) at p) none));
     }
@@ -70,15 +70,15 @@ offer-requires-2 g c =
     let x = c.index-hosts-mark.result in
     let lt : c.args.mark < length hosts = omega (arith, c.requires.matched.long, c.requires.inside) in
     let b = pivot_not K hosts c.args.mark x lt c.index-hosts-mark.is c.else-host.either in
-    let f = fallen_wrote L c.bring-down.result c.bring-down.ensures.fallen c.in_default.not-Not in
+    let f = fallen_wrote L c.bring_down.result c.bring_down.ensures.fallen c.in_default.not-Not in
     let gap = away_known K hosts c.args.mark x lt c.index-hosts-mark.is c.if-not-host.false in
     let is = host_known K hosts c.args.mark x lt c.index-hosts-mark.is c.if-not-host.false in
     let i = c.requires.matched.hosted c.args.mark x.cost gap in
     record {
       laid = c.requires.laid;
-      span = omega (arith, c.requires.matched.span, c.bring-down.auto.labels);
+      span = omega (arith, c.requires.matched.span, c.bring_down.auto.labels);
       agrees = (outer_keyed L (pivot_in K hosts) (host_in K hosts) (away_in K hosts) c.requires.matched.keyed b f.0 f.1).agrees;
-      inside = omega (arith, i.0, is, c.bring-down.auto.labels);
+      inside = omega (arith, i.0, is, c.bring_down.auto.labels);
     }
 
 pub returns : goal.returns
@@ -89,7 +89,7 @@ returns g c =
     let x = c.index-hosts-mark.result in
     let lt : c.args.mark < length hosts = omega (arith, c.requires.matched.long, c.requires.inside) in
     let b = pivot_not K hosts c.args.mark x lt c.index-hosts-mark.is c.else-host.either in
-    let f = fallen_wrote L c.bring-down.result c.bring-down.ensures.fallen c.in_default.not-Not in
+    let f = fallen_wrote L c.bring_down.result c.bring_down.ensures.fallen c.in_default.not-Not in
     let gap = away_known K hosts c.args.mark x lt c.index-hosts-mark.is c.if-not-host.false in
     let is = host_known K hosts c.args.mark x lt c.index-hosts-mark.is c.if-not-host.false in
     let i = c.requires.matched.hosted c.args.mark x.cost gap in
@@ -97,6 +97,6 @@ returns g c =
     let o = rw (sym is) at c.offer-2.ensures.offered in
     record {
       laid = c.offer-2.ensures.laid;
-      relaxed = step_relaxed L hosts _ _ _ _ c.requires.matched (omega (arith, c.offer-2.auto.labels, c.bring-down.auto.labels)) c.offer-2.ensures.steady (c.offer-2.ensures.clean (c.bring-down.ensures.clean c.requires.matched.clean))
+      relaxed = step_relaxed L hosts _ _ _ _ c.requires.matched (omega (arith, c.offer-2.auto.labels, c.bring_down.auto.labels)) c.offer-2.ensures.steady (c.offer-2.ensures.clean (c.bring_down.ensures.clean c.requires.matched.clean))
           (outer_onward L (pivot_in K hosts) (host_in K hosts) (away_in K hosts) c.requires.matched.keyed b f.0 f.1 gap sum i.1 o);
     }

@@ -26,13 +26,13 @@ returns-in_default-add g c =
       laid = c.requires.laid;
       ran = ran_refl g.M.Cost.Cost.lawful _ _ c.requires.matched;
       spread = record {
-        leg = λ y l q J e h. some_none {a = q} (c.add.ensures ∙ then_is K (c.label-at.ensures ∙ e) (rw c.price-at-price.ensures h)) c.in_default-add.is;
-        ball = λ y w l q f r J e h B i. some_none {a = q} (c.add.ensures ∙ then_is K (c.label-at.ensures ∙ e) (rw c.price-at-price.ensures h)) c.in_default-add.is;
+        leg = λ y l q J e h. some_none {a = q} (c.add.ensures ∙ then_is K (c.label_at.ensures ∙ e) (rw c.price_at-price.ensures h)) c.in_default-add.is;
+        ball = λ y w l q f r J e h B i. some_none {a = q} (c.add.ensures ∙ then_is K (c.label_at.ensures ∙ e) (rw c.price_at-price.ensures h)) c.in_default-add.is;
       };
     }
 
-pub offset-bounds-hosts-y : goal.offset-bounds-hosts-y
-offset-bounds-hosts-y g c =
+pub offset_bounds-hosts-y : goal.offset_bounds-hosts-y
+offset_bounds-hosts-y g c =
     let y_in = ends_in c.args.k c.requires.sea.chart c.requires.stands c.in-Some.ensures.1.0 in
     omega (arith, c.requires.matched.long)
 
@@ -41,8 +41,8 @@ bounds-hosts-y g c =
     let y_in = ends_in c.args.k c.requires.sea.chart c.requires.stands c.in-Some.ensures.1.0 in
     omega (arith, c.requires.matched.long)
 
-pub spread-rows-requires : goal.spread-rows-requires
-spread-rows-requires g c =
+pub spread_rows-requires : goal.spread_rows-requires
+spread_rows-requires g c =
     let y_in = ends_in c.args.k c.requires.sea.chart c.requires.stands c.in-Some.ensures.1.0 in
     let lt : c.in-Some.y < length c.args.hosts.now = omega (arith, c.requires.matched.long) in
     let x = c.index-hosts-y.result in
@@ -71,9 +71,9 @@ returns g c =
     let from_is = row_start c.requires.balled c.in-Some.y x lt c.index-hosts-y.is in
     let to_is = row_end c.requires.balled c.in-Some.y x lt c.index-hosts-y.is in
     record {
-      laid = c.spread-rows.ensures.laid;
-      ran = spread_leg_ran S c.requires.sea.housed c.requires.balled J f.1.1 c.add.ensures c.label-at.ensures c.price-at-price.ensures c.in-Some-add.is
-          c.relax.ensures.relaxed from_is to_is c.spread-rows.ensures.spread;
-      spread = spread_leg S c.requires.sea.housed c.requires.balled J f.1.1 c.add.ensures c.label-at.ensures c.price-at-price.ensures c.in-Some-add.is
-          c.relax.ensures.relaxed from_is to_is c.spread-rows.ensures.spread;
+      laid = c.spread_rows.ensures.laid;
+      ran = spread_leg_ran S c.requires.sea.housed c.requires.balled J f.1.1 c.add.ensures c.label_at.ensures c.price_at-price.ensures c.in-Some-add.is
+          c.relax.ensures.relaxed from_is to_is c.spread_rows.ensures.spread;
+      spread = spread_leg S c.requires.sea.housed c.requires.balled J f.1.1 c.add.ensures c.label_at.ensures c.price_at-price.ensures c.in-Some-add.is
+          c.relax.ensures.relaxed from_is to_is c.spread_rows.ensures.spread;
     }

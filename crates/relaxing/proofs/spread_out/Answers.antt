@@ -13,8 +13,8 @@ loop-k-init g c = (
   record { leg = λ s sure k y l q lt. absurd (omega arith); ball = λ s sure k y w l q e r lt. absurd (omega arith) },
 )
 
-pub spread-leg-requires : goal.spread-leg-requires
-spread-leg-requires g c = record {
+pub spread_leg-requires : goal.spread_leg-requires
+spread_leg-requires g c = record {
   laid = c.loop-k.invariant.0;
   matched = c.loop-k.invariant.1.matched;
   sea = sea_moved c.requires.sea c.loop-k.auto.labels;

@@ -7,8 +7,8 @@ use Rattle.relaxing.proofs.spread_rows.Goals as goal
 pub loop-j-init : goal.loop-j-init
 loop-j-init g c = (c.requires.laid, spread_none g.C.Cost.lawful c.args.start c.args.cost c.requires.matched)
 
-pub try-relax-requires : goal.try-relax-requires
-try-relax-requires g c =
+pub try_relax-requires : goal.try_relax-requires
+try_relax-requires g c =
     let lt : c.loop-j.j < length c.args.near.now = omega (arith, c.requires.fits) in
     let is : near_at g.C.Cost.kind c.args.near.now c.loop-j.j ≡ c.index-near-j.result = sym (get_or_read c.args.near.now c.loop-j.j c.index-near-j.result lt c.index-near-j.is _) in
     let i = rw is at (c.requires.inside c.loop-j.j c.loop-j.auto.j c.loop-j-test.true) in
@@ -18,7 +18,7 @@ pub loop-j-preserved : goal.loop-j-preserved
 loop-j-preserved g c =
     let lt : c.loop-j.j < length c.args.near.now = omega (arith, c.requires.fits) in
     let is : near_at g.C.Cost.kind c.args.near.now c.loop-j.j ≡ c.index-near-j.result = sym (get_or_read c.args.near.now c.loop-j.j c.index-near-j.result lt c.index-near-j.is _) in
-    (c.try-relax.ensures.laid, spread_more g.C.Cost.lawful c.loop-j.auto.j c.loop-j.invariant.1 (rw (is, ← c.sum.ensures) c.try-relax.ensures.tried))
+    (c.try_relax.ensures.laid, spread_more g.C.Cost.lawful c.loop-j.auto.j c.loop-j.invariant.1 (rw (is, ← c.sum.ensures) c.try_relax.ensures.tried))
 
 pub returns : goal.returns
 returns g c =

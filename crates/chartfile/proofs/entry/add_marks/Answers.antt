@@ -7,23 +7,23 @@ use Rattle.chartfile.proofs.Answered.{refused_of}
 use Rattle.chartfile.proofs.Marking.{marks_with_marks, refused_marks}
 use Rattle.chartfile.proofs.entry.add_marks.Goals as goal
 
-pub returns-in-err-add-mark : goal.returns-in-err-add-mark
-returns-in-err-add-mark g c =
+pub returns-in_err-add_mark : goal.returns-in_err-add_mark
+returns-in_err-add_mark g c =
     let p = err_from_is_err_and c.from-residual.result c.from-residual.ensures.1 in
-    let refused = refused_of c.in-err-add-mark.ensures.brings in
+    let refused = refused_of c.in_err-add_mark.ensures.brings in
     record {
-      enters = rw (p.1, p.2) (refused_marks _ _ c.loop-added.-added _ _ c.loop-added.invariant.0 (omega arith) refused);
-      measure = c.in-err-add-mark.ensures.measure ∙ c.loop-added.invariant.1;
+      enters = rw (p.1, p.2) (refused_marks _ _ c.loop-added._added _ _ c.loop-added.invariant.0 (omega arith) refused);
+      measure = c.in_err-add_mark.ensures.measure ∙ c.loop-added.invariant.1;
     }
 
 pub loop-added-preserved : goal.loop-added-preserved
 loop-added-preserved g c =
-    let told = c.in-ok-add-mark.ensures in
+    let told = c.in_ok-add_mark.ensures in
     (rw add-one (told.brings.state ∙ ap with_mark c.loop-added.invariant.0), told.measure ∙ c.loop-added.invariant.1)
 
 pub returns : goal.returns
 returns g c =
-    let all : c.loop-added.-added ≡ c.args.marks = omega arith in
+    let all : c.loop-added._added ≡ c.args.marks = omega arith in
     let is = rw all at c.loop-added.invariant.0 in
     let same = ap marks is in
     let many = marks_with_marks c.args.marks (state c.args.chart.now) in

@@ -8,16 +8,16 @@ shut : (b : Bool) → not b ≡ true → b ≡ false
 shut true e = sym e
 shut false e = refl
 
-pub returns-in-err-close : goal.returns-in-err-close
-returns-in-err-close g c =
-    let new = c.in-ok-number.ensures.brings in
-    absurd (closing_new (state c.args.chart.now) c.args.leg _ _ new.state (value_of new) _ (refused_of c.in-err-close.ensures.brings))
+pub returns-in_err-close : goal.returns-in_err-close
+returns-in_err-close g c =
+    let new = c.in_ok-number.ensures.brings in
+    absurd (closing_new (state c.args.chart.now) c.args.leg _ _ new.state (value_of new) _ (refused_of c.in_err-close.ensures.brings))
 
-pub returns-in-ok-close : goal.returns-in-ok-close
-returns-in-ok-close g c =
-    let new = c.in-ok-number.ensures.brings in
+pub returns-in_ok-close : goal.returns-in_ok-close
+returns-in_ok-close g c =
+    let new = c.in_ok-number.ensures.brings in
     let closed = closed_new (state c.args.chart.now) c.args.leg _ _ new.state (value_of new) (shut _ c.if-not-leg.true) in
     record {
-      enters = (passed_of new, c.in-ok-close.ensures.brings.state ∙ closed);
-      measure = c.in-ok-close.ensures.measure ∙ c.in-ok-number.ensures.measure;
+      enters = (passed_of new, c.in_ok-close.ensures.brings.state ∙ closed);
+      measure = c.in_ok-close.ensures.measure ∙ c.in_ok-number.ensures.measure;
     }

@@ -6,10 +6,10 @@ use Rattle.chartfile.proofs.frame.number_of.Goals as goal
 pub returns : goal.returns
 returns c =
     let bytes = c.args.bytes.now in
-    let fits = c.type-inv.bytes in
+    let fits = c.type_inv.bytes in
     let long : length bytes ≡ 4 = search rules in
     let all : bytes ≡ get_or bytes 0 0 ∷ get_or bytes 1 0 ∷ get_or bytes 2 0 ∷ get_or bytes 3 0 ∷ [] = from_places 4 0 bytes long in
-    let n0 = c.from-be-bytes.result in
+    let n0 = c.from_be_bytes.result in
     let small0 = fits 2 in
     let high0 : high n0 ≡ get_or bytes 1 0 = omega arith in
     let low0 : low n0 ≡ get_or bytes 2 0 = omega arith in

@@ -10,8 +10,8 @@ use Rattle.chartfile.proofs.Canonical.{loaded_file}
 use Rattle.chartfile.proofs.Unread.{not_faulty, comes_back}
 use Rattle.chartfile.proofs.loading.load.Goals as goal
 
-pub load-lines-loaded-requires : goal.load-lines-loaded-requires
-load-lines-loaded-requires g c = blank_without_marks _ (possible c.args.chart.now) (omega arith)
+pub load_lines-loaded-requires : goal.load_lines-loaded-requires
+load_lines-loaded-requires g c = blank_without_marks _ (possible c.args.chart.now) (omega arith)
 
 whole : (text : List ℕ) (s : State) (F G : Fault → Type 0) (r : Result (Unit {0}) Fault) → is_err r ≡ false → MatchResult r (λ _. Loaded text s) F → MatchResult r (λ _. (text ≡ file s) × (s.worked ≡ false)) G
 whole text s F G (Ok _) e loaded = loaded_file loaded
@@ -21,16 +21,16 @@ back : (text : List ℕ) (s : State) (F : Fault → Type 0) (r : Result (Unit {0
 back text s F (Ok _) e loaded t p is = (refl, comes_back t p is loaded)
 back text s F (Err fault) e loaded t p is = let z : ◌≡◌ {A = ℕ} 0 1 = cc in absurd (omega arith)
 
-pub returns-else-is-err : goal.returns-else-is-err
-returns-else-is-err g c =
-    let fine : is_err c.load-lines-loaded.result ≡ false = search rules in
+pub returns-else-is_err : goal.returns-else-is_err
+returns-else-is_err g c =
+    let fine : is_err c.load_lines-loaded.result ≡ false = search rules in
     record {
       loads = record {
         refused = λ some. absurd (omega arith);
-        loaded = λ _. whole _ _ _ _ c.load-lines-loaded.result fine c.load-lines-loaded.ensures.loads;
-        accepted = λ _. back _ _ _ c.load-lines-loaded.result fine c.load-lines-loaded.ensures.loads;
+        loaded = λ _. whole _ _ _ _ c.load_lines-loaded.result fine c.load_lines-loaded.ensures.loads;
+        accepted = λ _. back _ _ _ c.load_lines-loaded.result fine c.load_lines-loaded.ensures.loads;
       };
-      measure = c.load-lines-loaded.ensures.measure;
+      measure = c.load_lines-loaded.ensures.measure;
     }
 
 module _ (text : List ℕ) (L : Unit {0} → Type 0) (s : State) where
@@ -42,15 +42,15 @@ module _ (text : List ℕ) (L : Unit {0} → Type 0) (s : State) where
   no_file (Ok _) e told t p is = let z : ◌≡◌ {A = ℕ} 0 1 = cc in absurd (omega arith)
   no_file (Err fault) e told t p is = absurd (not_faulty t text fault p is told)
 
-pub returns-then-is-err : goal.returns-then-is-err
-returns-then-is-err g c =
-    let bad : is_err c.load-lines-loaded.result ≡ true = search rules in
-    let told = c.load-lines-loaded.ensures in
+pub returns-then-is_err : goal.returns-then-is_err
+returns-then-is_err g c =
+    let bad : is_err c.load_lines-loaded.result ≡ true = search rules in
+    let told = c.load_lines-loaded.ensures in
     record {
       loads = record {
         refused = λ some. absurd (omega arith);
-        loaded = λ _. faulty _ _ _ c.load-lines-loaded.result bad told.loads c.clear.ensures.blank;
-        accepted = λ _. no_file _ _ _ c.load-lines-loaded.result bad told.loads;
+        loaded = λ _. faulty _ _ _ c.load_lines-loaded.result bad told.loads c.clear.ensures.blank;
+        accepted = λ _. no_file _ _ _ c.load_lines-loaded.result bad told.loads;
       };
       measure = c.clear.ensures.measure ∙ told.measure;
     }

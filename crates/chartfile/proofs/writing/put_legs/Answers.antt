@@ -9,7 +9,7 @@ loop-leg-init c = (omega arith, sym (splice_none c.args.buffer.now c.args.at))
 
 pub loop-leg-preserved : goal.loop-leg-preserved
 loop-leg-preserved c =
-    (omega arith, leg_more c.args.buffer.now c.args.at c.loop-leg.next c.args.legs.now c.loop-leg.leg-index c.loop-leg-test.true c.loop-leg.invariant.1 c.put-frame-next.ensures.writes (omega arith) (omega arith))
+    (omega arith, leg_more c.args.buffer.now c.args.at c.loop-leg.next c.args.legs.now c.loop-leg.leg-index c.loop-leg-test.true c.loop-leg.invariant.1 c.put_frame-next.ensures.writes (omega arith) (omega arith))
 
 pub returns : goal.returns
 returns c =

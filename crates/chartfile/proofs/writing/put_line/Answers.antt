@@ -19,7 +19,7 @@ loop-byte-preserved c =
     let more = take_more body i 0 c.loop-byte-test.true in
     let old = c.args.buffer.now in
     let at = c.args.at in
-    (omega arith, splice_on old at c.loop-byte.next done (hex (get_or body i 0 ∷ [])) c.loop-byte.invariant.1 c.put-byte.ensures (omega arith) (omega arith) ∙ ap (splice old at) (sym (hex_append (take i body) (get_or body i 0 ∷ [])) ∙ ap hex (sym more)))
+    (omega arith, splice_on old at c.loop-byte.next done (hex (get_or body i 0 ∷ [])) c.loop-byte.invariant.1 c.put_byte.ensures (omega arith) (omega arith) ∙ ap (splice old at) (sym (hex_append (take i body) (get_or body i 0 ∷ [])) ∙ ap hex (sym more)))
 
 pub returns : goal.returns
 returns c =
@@ -29,11 +29,11 @@ returns c =
     let at = c.args.at in
     let all = take_all i body (omega arith) in
     let long = length_hex body in
-    let adds = c.sum-of.ensures in
+    let adds = c.sum_of.ensures in
     let so_far = rw all at c.loop-byte.invariant.1 in
-    let last = (0 + (256 - c.sum-of.result)) % 256 in
+    let last = (0 + (256 - c.sum_of.result)) % 256 in
     let is_check : last ≡ check body = omega arith in
-    let digits = splice_on old at c.loop-byte.next (hex body) (hex (last ∷ [])) so_far c.put-byte-2.ensures (omega arith) (omega arith) ∙ ap (splice old at) (sym (hex_append body (last ∷ [])) ∙ ap (λ (b : ℕ). hex (body ++ b ∷ [])) is_check) in
+    let digits = splice_on old at c.loop-byte.next (hex body) (hex (last ∷ [])) so_far c.put_byte-2.ensures (omega arith) (omega arith) ∙ ap (splice old at) (sym (hex_append body (last ∷ [])) ∙ ap (λ (b : ℕ). hex (body ++ b ∷ [])) is_check) in
     let whole = length_hex (checked body) in
     let more = length-append body (check body ∷ []) in
     record { place = omega arith; writes = splice_push old _ at (c.loop-byte.next + 2) (hex (checked body)) 10 digits (omega arith) (omega arith) }

@@ -10,8 +10,8 @@ use Rattle.chartfile.proofs.writing.put_pivots.Goals.{then-pivots-mark, else-piv
 pub loop-mark-init : goal.loop-mark-init
 loop-mark-init c = (omega arith, sym (splice_none c.args.buffer.now c.args.at))
 
-pub put-frame-next-requires : goal.put-frame-next-requires
-put-frame-next-requires c =
+pub put_frame-next-requires : goal.put_frame-next-requires
+put_frame-next-requires c =
     let one_more = ap length (marked_yes c.args.pivots.now c.loop-mark.mark c.loop-mark-test.true c.if-pivots-mark.true) in
     let longer = length-append (marked_from 0 (take c.loop-mark.mark c.args.pivots.now)) (c.loop-mark.mark ∷ []) in
     let room = marked_upto c.args.pivots.now (c.loop-mark.mark + 1) (omega arith) in
@@ -23,7 +23,7 @@ loop-mark-preserved c = elim c.if-pivots-mark.branch [
       let one_more = ap length (marked_yes c.args.pivots.now c.loop-mark.mark c.loop-mark-test.true w.if-pivots-mark.true) in
       let longer = length-append (marked_from 0 (take c.loop-mark.mark c.args.pivots.now)) (c.loop-mark.mark ∷ []) in
       let room = marked_upto c.args.pivots.now c.loop-mark.mark (omega arith) in
-      (omega (arith, w.next-is), w.buffer-is ∙ pivot_more c.args.buffer.now c.args.at c.loop-mark.next c.args.pivots.now c.loop-mark.mark c.loop-mark-test.true w.if-pivots-mark.true c.loop-mark.invariant.1 w.put-frame-next.ensures.writes (omega arith) (omega arith))
+      (omega (arith, w.next-is), w.buffer-is ∙ pivot_more c.args.buffer.now c.args.at c.loop-mark.next c.args.pivots.now c.loop-mark.mark c.loop-mark-test.true w.if-pivots-mark.true c.loop-mark.invariant.1 w.put_frame-next.ensures.writes (omega arith) (omega arith))
       )
   | else-pivots-mark w ↦ (
       let same = marked_no c.args.pivots.now c.loop-mark.mark c.loop-mark-test.true w.if-pivots-mark.false in

@@ -3,13 +3,13 @@ use Rattle.std.proofs.lemmas.Str.Pattern.{split_parts, split_after}
 use Rattle.office.proofs.Miles.{without_point, with_point}
 use Rattle.office.proofs.number.tenths.Goals as goal
 
-pub returns-in-err-whole : goal.returns-in-err-whole
-returns-in-err-whole c =
+pub returns-in_err-whole : goal.returns-in_err-whole
+returns-in_err-whole c =
     let none = split_parts 46 c.args.word.now None c.in-None.ensures.cases (lit< tt) in
-    rw c.from-residual.ensures (λ tenths miles. c.in-err-whole.ensures (without_point _ tenths none miles))
+    rw c.from-residual.ensures (λ tenths miles. c.in_err-whole.ensures (without_point _ tenths none miles))
 
-pub returns-in-ok-whole : goal.returns-in-ok-whole
-returns-in-ok-whole c = let whole = c.in-ok-whole.ensures in (_, inl (whole.0, refl), omega arith)
+pub returns-in_ok-whole : goal.returns-in_ok-whole
+returns-in_ok-whole c = let whole = c.in_ok-whole.ensures in (_, inl (whole.0, refl), omega arith)
 
 pub returns-in-Some : goal.returns-in-Some
 returns-in-Some c =
@@ -17,4 +17,4 @@ returns-in-Some c =
     let pair = Some (c.in-Some.miles, c.in-Some.tenth) in
     let said = c.in-Some.ensures.cases in
     with_point word c.in-Some.miles.now c.in-Some.tenth.now (split_parts 46 word pair said (lit< tt)).0
-    (λ xs ys is none. split_after 46 word xs ys pair said (lit< tt) is none) _ c.with-tenth.ensures
+    (λ xs ys is none. split_after 46 word xs ys pair said (lit< tt) is none) _ c.with_tenth.ensures
