@@ -20,10 +20,10 @@ use std::cmp::Ordering;
 use waterway::{Label, Leg};
 
 // Whether a key is above the best, where there is one.
-fn is_past<C: Cost>(best: Option<C>, key: C) -> bool
-    ensures { MatchBool result (Past C.Cost.kind best key) (Past C.Cost.kind best key → ⊥) }
+fn is_past<C: Cost>(best: &Option<C>, key: C) -> bool
+    ensures { MatchBool result (Past C.Cost.kind best.now key) (Past C.Cost.kind best.now key → ⊥) }
 {
-    match best {
+    match *best {
         None => false,
         Some(best) => match best.compare(key) {
             Ordering::Less => true,
@@ -64,15 +64,16 @@ fn look_round<M: Measure, Q: Queue<M::Cost>>(
     queue.clear();
     blank(labels);
     offer(labels, queue, v, M::Cost::zero());
+    let no_rows: [Near<M::Cost>; 0] = [];
     let mut best = None;
     while let Some(drawn) = queue.draw() {
         let u = drawn.0;
         let key = drawn.1;
-        if is_past(best, key) {
+        if is_past(&best, key) {
             break;
         }
         best = better(best, pivots[u as usize], key);
-        spread_out(m, legs, selves, &[], labels, queue, u);
+        spread_out(m, legs, selves, &no_rows, labels, queue, u);
     }
 }
 

@@ -9,7 +9,7 @@ use Rattle.chartfile.proofs.entry.add_marks.Goals as goal
 
 pub returns-in_err-add_mark : goal.returns-in_err-add_mark
 returns-in_err-add_mark g c =
-    let p = err_from_is_err_and c.from-residual.result c.from-residual.ensures.1 in
+    let p = err_from_is_err_and c.from_residual.result c.from_residual.ensures.1 in
     let refused = refused_of c.in_err-add_mark.ensures.brings in
     record {
       enters = rw (p.1, p.2) (refused_marks _ _ c.loop-added._added _ _ c.loop-added.invariant.0 (omega arith) refused);

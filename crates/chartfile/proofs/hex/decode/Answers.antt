@@ -7,7 +7,7 @@ use Rattle.chartfile.proofs.hex.decode.Goals.{then-loop-count-test+else-not-ends
 pub returns-in_err-bytes : goal.returns-in_err-bytes
 returns-in_err-bytes c =
     let open_end = not_from_Decides _ c.ends_at.ensures c.if-not-ends_at.true in
-    rw c.from-residual.ensures
+    rw c.from_residual.ensures
     (λ bs rest. no_line c.args.text.now c.loop-count.bytes c.loop-count.count c.loop-count.invariant.0 bs rest open_end (inl c.in_err-bytes.ensures))
 
 pub loop-count-preserved : goal.loop-count-preserved

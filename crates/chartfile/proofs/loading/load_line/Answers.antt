@@ -7,7 +7,7 @@ use Rattle.chartfile.proofs.loading.load_line.Goals as goal
 
 pub returns-in_err-frame : goal.returns-in_err-frame
 returns-in_err-frame g c =
-    let p = err_from_is_err_and c.from-residual.result c.from-residual.ensures.1 in
+    let p = err_from_is_err_and c.from_residual.result c.from_residual.ensures.1 in
     let bad = rw (rest_is c.args.text.now c.args.place.at) at (c.in_err-frame.ensures (state c.args.chart.now)) in
     record { loads = rw (p.1, p.2) bad; measure = refl }
 

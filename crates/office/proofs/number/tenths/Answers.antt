@@ -6,7 +6,7 @@ use Rattle.office.proofs.number.tenths.Goals as goal
 pub returns-in_err-whole : goal.returns-in_err-whole
 returns-in_err-whole c =
     let none = split_parts 46 c.args.word.now None c.in-None.ensures.cases (lit< tt) in
-    rw c.from-residual.ensures (λ tenths miles. c.in_err-whole.ensures (without_point _ tenths none miles))
+    rw c.from_residual.ensures (λ tenths miles. c.in_err-whole.ensures (without_point _ tenths none miles))
 
 pub returns-in_ok-whole : goal.returns-in_ok-whole
 returns-in_ok-whole c = let whole = c.in_ok-whole.ensures in (_, inl (whole.0, refl), omega arith)
