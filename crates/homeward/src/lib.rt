@@ -106,11 +106,11 @@ pub fn write_route<M: Measure>(
     v: u16,
 ) -> usize
     requires chart { Charted legs.now (length steps.now) }
-    requires steps { StepsAre (water Cost-as-Cost.kind (M.Measure.priced m.now) legs.now) home steps.now (length steps.now) }
+    requires steps { StepsAre (water M.Cost.Cost.kind (M.Measure.priced m.now) legs.now) home steps.now (length steps.now) }
     requires home { home < length steps.now }
-    requires way { (c : _) × Dist (water Cost-as-Cost.kind (M.Measure.priced m.now) legs.now) home v c }
+    requires way { (c : _) × Dist (water M.Cost.Cost.kind (M.Measure.priced m.now) legs.now) home v c }
     requires room { length steps.now ≤ length route.old }
-    ensures { Route (water Cost-as-Cost.kind (M.Measure.priced m.now) legs.now) home v (drop result route.new) }
+    ensures { Route (water M.Cost.Cost.kind (M.Measure.priced m.now) legs.now) home v (drop result route.new) }
 {
     let mut at = route.len();
     let mut mark = v;
