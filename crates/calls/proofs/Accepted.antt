@@ -1,4 +1,4 @@
--- An accepted call, its answer told in other words.
+-- An accepted call, its value told in other words.
 use Rattle.std.proofs.Common.{◌≡◌, ℕ, List, [], ◌∷◌, Ok, Err, Result, ap, inl, inr, arith}
 use Rattle.chart.specs.declared.refusal.Refusal.{Refusal}
 use Rattle.checks.specs.Checks.{Check, Answers}
@@ -13,9 +13,3 @@ module _ {V W : Type 0} (f : V → W) where
 
   pub accepted_as : {v n : V} {cs : List (Check Refusal)} {before next after : State} → Brings cs v before next (Ok n) after → Brings cs (f v) before next (Ok (f n)) after
   accepted_as {v} {n} {cs} b = record { answer = answers_as v n cs b.answer; state = b.state }
-
--- no refusal is told in either way
-pub accepted_also : {V R : Type 0} (f : Refusal → R) (v w : V) (cs : List (Check Refusal)) → Answers Err (λ r. r ≡ Ok v) cs (Ok w) → Answers {R = Refusal} {A = Result V R} (λ x. Err (f x)) (λ r. r ≡ Ok v) cs (Ok w)
-accepted_also f v w [] e = let same : w ≡ v = cc in ap (λ x. Ok x) same
-accepted_also f v w (c ∷ cs) (inl h) = let e = h.1 in let z : ◌≡◌ {A = ℕ} 0 1 = cc in absurd (omega arith)
-accepted_also f v w (c ∷ cs) (inr h) = inr (h.0, accepted_also f v w cs h.1)

@@ -1,24 +1,13 @@
 -- One more call of a list, told.
-use Rattle.std.proofs.Common.{◌≡◌, ℕ, ◌+◌, ◌<◌, List, ◌∷◌, length, get_or, drop, set, Result, sym, ap, ◌∙◌, subst, add-one, arith, length-drop, drop-cons}
-use Rattle.std.proofs.lemmas.List.{drop-drop, drop-set-lt}
+use Rattle.std.proofs.Common.{ℕ, ◌+◌, ◌<◌, List, ◌∷◌, length, get_or, drop, Result, add-one, drop-cons}
+use Rattle.chart.specs.declared.refusal.Refusal.{Refusal}
 use Rattle.chart.specs.State.{State}
+use Rattle.chart.specs.Calls.{Brings}
 use Rattle.calls.specs.declared.call.Call.{Call}
 use Rattle.calls.specs.declared.call.Answer.{Answer}
-use Rattle.calls.specs.declared.call.Refused.{Refused}
-use Rattle.calls.specs.Law.{Goes, Told}
+use Rattle.calls.specs.Law.{checks, given, next, Told}
 
--- the calls that were handed in, and those that stand before number i is made; the calls from i on are still the same
-module _ (was standing : List Call) (i : ℕ) (inside : i < length was) (same : drop i standing ≡ drop i was) where
-  within : i < length standing
-  within = omega (arith, ap length same, length-drop i standing, length-drop i was)
-
-  same_call : (default : Call) → get_or standing i default ≡ get_or was i default
-  same_call default = rw (drop-cons standing i default within, drop-cons was i default inside) at (ap (λ (calls : List Call). get_or calls 0 default) same)
-
-  pub same_rest : (call' : Call) → drop (i + 1) (set standing i call') ≡ drop (i + 1) was
-  same_rest call' = drop-set-lt (i + 1) standing i call' (omega arith) ∙ sym (drop-drop 1 i standing) ∙ ap (drop 1) same ∙ drop-drop 1 i was
-
-  -- call number i is told, and those after it
-  pub told_from : (s s' : State) (default call' : Call) (r : Result Answer Refused) (rest : List Call) (answers : List (Result Answer Refused)) → Goes s (get_or standing i default) call' r s' → Told s' (drop (i + 1) was) rest answers → Told s (drop i was) (call' ∷ rest) (r ∷ answers)
-  told_from s s' default call' r rest answers goes told =
-      rw (drop-cons was i default inside) (s', subst (λ (call : Call). Goes s call call' r s') (same_call default) goes, rw (add-one i) at told)
+module _ (s after : State) (calls : List Call) (i : ℕ) (default : Call) where
+  -- the call number i is told, and those after it
+  pub told_from : (r : Result Answer Refusal) (rest : List (Result Answer Refusal)) → i < length calls → (let call = get_or calls i default in Brings (checks s call) (given s call) s (next s call) r after) → Told after (drop (i + 1) calls) rest → Told s (drop i calls) (r ∷ rest)
+  told_from r rest inside b told = rw (drop-cons calls i default inside) (b.answer, rw (b.state, add-one i) at told)

@@ -1,4 +1,1 @@
-pub mod Changing
-pub mod Filing
 pub mod Law
-pub mod Refusals

@@ -2,44 +2,61 @@
 #![tactic(auto)]
 
 ghost use Rattle.std.specs.Prelude.{IfOk};
+ghost use Rattle.chart.specs.Calls.{Brings};
 ghost use Rattle.chart.specs.Shown.{state};
 ghost use Rattle.chart.specs.State.{blank};
-ghost use Rattle.calls.specs.Law.{Goes, Told};
+ghost use Rattle.calls.specs.Law.{checks, given, next, Told};
 
-use changes::make_change;
-use chart::Chart;
-use files::{load_file, write_file};
+use chart::{Chart, Refusal};
 use measure::Measure;
 use std::alloc::{AllocError, Global};
 
 pub mod call;
-mod changes;
-mod files;
 
-pub use call::{Answer, Call, Change, Refused};
+pub use call::{Answer, Call};
 
 // Begins a blank chart with the measure, and performs the calls on it, one after the other.
 pub fn run<M: Measure + Drop>(
     heap: Global,
     measure: M,
-    calls: &mut [Call],
-) -> Result<Vec<Result<Answer, Refused>>, AllocError>
-    ensures { IfOk result (λ answers. Told blank calls.old calls.new answers.items) }
+    calls: &[Call],
+) -> Result<Vec<Result<Answer, Refusal>>, AllocError>
+    ensures { IfOk result (λ answers. Told blank calls.now answers.items) }
 {
     let mut chart = Chart::begin(heap, measure)?;
     let mut answers = Vec::new(heap);
-    for call in calls.iter_mut() {
-        answers.push(perform(&mut chart, call))?;
+    for call in calls {
+        answers.push(perform(&mut chart, *call))?;
     }
     Ok(answers)
 }
 
-fn perform<M: Measure>(chart: &mut Chart<M>, call: &mut Call) -> Result<Answer, Refused>
-    ensures { Goes (state chart.old) call.old call.new result (state chart.new) }
+fn perform<M: Measure>(chart: &mut Chart<M>, call: Call) -> Result<Answer, Refusal>
+    ensures { Brings (checks (state chart.old) call) (given (state chart.old) call) (state chart.old) (next (state chart.old) call) result (state chart.new) }
 {
-    match call {
-        Call::Change(change) => make_change(chart, *change),
-        Call::Load(text) => load_file(chart, text.as_slice()),
-        Call::Write(buffer) => write_file(chart, buffer.as_mut_slice()),
-    }
+    Ok(match call {
+        Call::AddMark => Answer::Mark(chart.add_mark()?),
+        Call::EnterLeg {
+            a,
+            b,
+            length,
+            locks,
+        } => Answer::Leg(chart.enter_leg(a, b, length, locks)?),
+        Call::Close(leg) => {
+            chart.close(leg)?;
+            Answer::Closed(leg)
+        }
+        Call::Reopen(leg) => {
+            chart.reopen(leg)?;
+            Answer::Reopened(leg)
+        }
+        Call::SetHome(mark) => {
+            chart.set_home(mark)?;
+            Answer::Home(mark)
+        }
+        Call::SetPivot(mark, pivot) => {
+            chart.set_pivot(mark, pivot)?;
+            Answer::Pivot(mark, pivot)
+        }
+    })
 }

@@ -1,6 +1,6 @@
 // The command language: what one line says.
 use crate::number::{tenths, whole};
-use calls::Change;
+use calls::Call;
 
 // What a chart counts.
 #[derive(Clone, Copy)]
@@ -10,12 +10,9 @@ pub enum Unit {
 }
 
 #[derive(Clone, Copy)]
-pub enum Command<'t> {
+pub enum Command {
     Measure(Unit),
-    Change(Change),
-    // A path.
-    Load(&'t str),
-    Save(&'t str),
+    Call(Call),
 }
 
 // What is wrong with a line that is no command.
@@ -28,32 +25,30 @@ pub enum Slip {
 }
 
 // The command that the words of a line say.
-pub fn parse<'t>(words: &[&'t str]) -> Result<Command<'t>, Slip> {
+pub fn parse(words: &[&str]) -> Result<Command, Slip> {
     let Some(command) = command_of(words) else {
         return Err(slip_of(words));
     };
     Ok(command)
 }
 
-fn command_of<'t>(words: &[&'t str]) -> Option<Command<'t>> {
+fn command_of(words: &[&str]) -> Option<Command> {
     Some(match words {
         ["measure", "length"] => Command::Measure(Unit::Length),
         ["measure", "locks"] => Command::Measure(Unit::Locks),
-        ["mark"] => Command::Change(Change::AddMark),
-        ["leg", a, b, miles, locks] => Command::Change(leg_of(a, b, miles, locks)?),
-        ["close", leg] => Command::Change(Change::Close(number_of(leg)?)),
-        ["open", leg] => Command::Change(Change::Reopen(number_of(leg)?)),
-        ["home", mark] => Command::Change(Change::SetHome(number_of(mark)?)),
-        ["pivot", mark, "yes"] => Command::Change(Change::SetPivot(number_of(mark)?, true)),
-        ["pivot", mark, "no"] => Command::Change(Change::SetPivot(number_of(mark)?, false)),
-        ["load", path] => Command::Load(path),
-        ["save", path] => Command::Save(path),
+        ["mark"] => Command::Call(Call::AddMark),
+        ["leg", a, b, miles, locks] => Command::Call(leg_of(a, b, miles, locks)?),
+        ["close", leg] => Command::Call(Call::Close(number_of(leg)?)),
+        ["open", leg] => Command::Call(Call::Reopen(number_of(leg)?)),
+        ["home", mark] => Command::Call(Call::SetHome(number_of(mark)?)),
+        ["pivot", mark, "yes"] => Command::Call(Call::SetPivot(number_of(mark)?, true)),
+        ["pivot", mark, "no"] => Command::Call(Call::SetPivot(number_of(mark)?, false)),
         _ => return None,
     })
 }
 
-fn leg_of(a: &str, b: &str, miles: &str, locks: &str) -> Option<Change> {
-    Some(Change::EnterLeg {
+fn leg_of(a: &str, b: &str, miles: &str, locks: &str) -> Option<Call> {
+    Some(Call::EnterLeg {
         a: number_of(a)?,
         b: number_of(b)?,
         length: u16::try_from(tenths(miles)?).unwrap_or(u16::MAX),
@@ -75,8 +70,6 @@ fn slip_of(words: &[&str]) -> Slip {
         ["open", ..] => Slip::Form("open N"),
         ["home", ..] => Slip::Form("home N"),
         ["pivot", ..] => Slip::Form("pivot N yes|no"),
-        ["load", ..] => Slip::Form("load PATH"),
-        ["save", ..] => Slip::Form("save PATH"),
         _ => Slip::NoCommand,
     }
 }

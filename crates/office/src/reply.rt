@@ -1,19 +1,18 @@
 // What the office writes for each line of a script.
 use crate::command::{Slip, Unit};
-use calls::{Answer, Refused};
+use calls::Answer;
 use chart::Refusal;
-use chartfile::{Cause, Fault};
-use std::fmt;
+use std::alloc::AllocError;
 use std::fmt::Write;
 
-pub fn reply_measure(out: &mut String, unit: Unit) -> fmt::Result {
+pub fn reply_measure(out: &mut String, unit: Unit) -> Result<(), AllocError> {
     match unit {
         Unit::Length => writeln!(out, "measure length"),
         Unit::Locks => writeln!(out, "measure locks"),
     }
 }
 
-pub fn reply_call(out: &mut String, answer: Result<Answer, Refused>) -> fmt::Result {
+pub fn reply_call(out: &mut String, answer: Result<Answer, Refusal>) -> Result<(), AllocError> {
     match answer {
         Ok(Answer::Mark(mark)) => writeln!(out, "mark {mark}"),
         Ok(Answer::Leg(leg)) => writeln!(out, "leg {leg}"),
@@ -22,51 +21,15 @@ pub fn reply_call(out: &mut String, answer: Result<Answer, Refused>) -> fmt::Res
         Ok(Answer::Home(mark)) => writeln!(out, "home {mark}"),
         Ok(Answer::Pivot(mark, true)) => writeln!(out, "pivot {mark} yes"),
         Ok(Answer::Pivot(mark, false)) => writeln!(out, "pivot {mark} no"),
-        Ok(Answer::Loaded { marks, legs }) => writeln!(out, "loaded {marks} marks {legs} legs"),
-        Ok(Answer::Written(bytes)) => writeln!(out, "saved {bytes} bytes"),
-        Err(Refused::Chart(refusal)) => reply_refusal(out, refusal),
-        Err(Refused::File(fault)) => reply_fault(out, fault),
-        Err(Refused::Buffer(short)) => {
-            let number = short.number();
-            writeln!(
-                out,
-                "refused {number:02} the buffer is shorter than the file"
-            )
+        Err(refusal) => {
+            let number = refusal.number();
+            let reason = reason(refusal);
+            writeln!(out, "refused {number:02} {reason}")
         }
     }
 }
 
-fn reply_refusal(out: &mut String, refusal: Refusal) -> fmt::Result {
-    let number = refusal.number();
-    let reason = reason(refusal);
-    writeln!(out, "refused {number:02} {reason}")
-}
-
-fn reply_fault(out: &mut String, fault: Fault) -> fmt::Result {
-    let number = fault.cause.number();
-    let line = fault.line;
-    write!(out, "refused {number:02} line {line} ")?;
-    match fault.cause {
-        Cause::HasMarks => writeln!(out, "the chart has marks already"),
-        Cause::BadDigits => writeln!(
-            out,
-            "a line is 2 to 64 digits 0 to 9 and A to F, two a byte"
-        ),
-        Cause::BadSum => writeln!(out, "the bytes do not add up"),
-        Cause::BadFrame => writeln!(out, "this frame cannot stand here, or the last is missing"),
-        Cause::BadEntry(refusal) => reply_refusal(out, refusal),
-    }
-}
-
-pub fn reply_unread(out: &mut String, line: usize, path: &str) -> fmt::Result {
-    writeln!(out, "? line {line} cannot read {path}")
-}
-
-pub fn reply_unwritten(out: &mut String, line: usize, path: &str) -> fmt::Result {
-    writeln!(out, "? line {line} cannot write {path}")
-}
-
-pub fn reply_slip(out: &mut String, line: usize, slip: Slip) -> fmt::Result {
+pub fn reply_slip(out: &mut String, line: usize, slip: Slip) -> Result<(), AllocError> {
     match slip {
         Slip::NoCommand => writeln!(out, "? line {line} no such command"),
         Slip::Form(form) => writeln!(out, "? line {line} write it as: {form}"),

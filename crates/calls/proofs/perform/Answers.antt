@@ -1,8 +1,6 @@
-use Rattle.std.proofs.Common.{refl, arith}
-use Rattle.std.proofs.lemmas.List.{with_items_is}
+use Rattle.calls.specs.declared.call.Answer.TheVariants.{Leg}
+use Rattle.calls.proofs.Accepted.{accepted_as}
 use Rattle.calls.proofs.perform.Goals as goal
 
-pub returns-in-Write : goal.returns-in-Write
-returns-in-Write g c =
-    let lent = c.as_mut_slice.ensures in
-    rw (c.in-Write.is, with_items_is c.in-Write.buffer c.write_file.new.buffer (omega arith)) (rw lent.value at c.write_file.ensures, refl)
+pub returns-in_ok-enter_leg-in-EnterLeg : goal.returns-in_ok-enter_leg-in-EnterLeg
+returns-in_ok-enter_leg-in-EnterLeg g c = rw c.in-EnterLeg.is (accepted_as Leg c.in_ok-enter_leg-in-EnterLeg.ensures.brings)

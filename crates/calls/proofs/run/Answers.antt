@@ -1,23 +1,13 @@
 use Rattle.std.proofs.Common.{[], ◌∷◌, is_ok, ap, append_assoc, append-nil, arith}
 use Rattle.std.proofs.ResultArms.{chosen}
-use Rattle.std.proofs.lemmas.List.{drop_all, take_all, take_more_set}
-use Rattle.calls.proofs.Telling.{same_rest, told_from}
+use Rattle.std.proofs.lemmas.List.{drop_all}
+use Rattle.calls.proofs.Telling.{told_from}
 use Rattle.calls.proofs.run.Goals as goal
 
 pub loop-call-preserved : goal.loop-call-preserved
-loop-call-preserved g c =
-    let was = c.args.calls.now in
-    let standing = c.loop-call.calls in
-    let i = c.loop-call.call-index in
-    let same = c.loop-call.invariant.0 in
-    let pushed = chosen _ _ _ _ c.push.ensures.items (ap is_ok c.in_ok-push.was) in (
-      same_rest was standing i (omega arith) same _,
-      λ rest answers told.
-          rw (pushed, take_more_set standing i c.perform.new.call (omega arith), append_assoc, append_assoc)
-          (c.loop-call.invariant.1 (c.perform.new.call ∷ rest) (c.perform.result ∷ answers) (told_from was standing i (omega arith) same _ _ _ _ _ rest answers c.perform.ensures told)),
-    )
+loop-call-preserved g c rest told =
+    rw (chosen _ _ _ _ c.push.ensures.items (ap is_ok c.in_ok-push.was), append_assoc)
+    (c.loop-call.invariant (c.perform.result ∷ rest) (told_from _ _ _ c.loop-call.call-index _ _ rest (omega arith) c.perform.ensures told))
 
 pub returns : goal.returns
-returns g c =
-    let i = c.loop-call.call-index in
-    rw (append-nil, append-nil, take_all i c.loop-call.calls (omega arith)) at (c.loop-call.invariant.1 [] [] (rw (drop_all i c.args.calls.now (omega arith)) tt))
+returns g c = rw append-nil at (c.loop-call.invariant [] (rw (drop_all c.loop-call.call-index c.args.calls.now (omega arith)) tt))

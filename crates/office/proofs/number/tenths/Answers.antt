@@ -3,13 +3,13 @@ use Rattle.std.proofs.lemmas.Str.Pattern.{split_parts, split_after}
 use Rattle.office.proofs.Miles.{without_point, with_point}
 use Rattle.office.proofs.number.tenths.Goals as goal
 
-pub returns-in_err-whole : goal.returns-in_err-whole
-returns-in_err-whole c =
+pub returns-in_err-whole-in-None : goal.returns-in_err-whole-in-None
+returns-in_err-whole-in-None c =
     let none = split_parts 46 c.args.word.now None c.in-None.ensures.cases (lit< tt) in
-    rw c.from_residual.ensures (λ tenths miles. c.in_err-whole.ensures (without_point _ tenths none miles))
+    rw c.from_residual.ensures (λ tenths miles. c.in_err-whole-in-None.ensures (without_point _ tenths none miles))
 
-pub returns-in_ok-whole : goal.returns-in_ok-whole
-returns-in_ok-whole c = let whole = c.in_ok-whole.ensures in (_, inl (whole.0, refl), omega arith)
+pub returns-in_ok-whole-in-None : goal.returns-in_ok-whole-in-None
+returns-in_ok-whole-in-None c = let whole = c.in_ok-whole-in-None.ensures in (_, inl (whole.0, refl), omega arith)
 
 pub returns-in-Some : goal.returns-in-Some
 returns-in-Some c =
