@@ -1,8 +1,8 @@
 use crate::try_work_out;
 use bundle::Totals;
 use bundling::Near;
-use measure::by_length::{Cost, Length};
-use measure::by_locks::{Cost, LocksFirst};
+use measure::by_length::Length;
+use measure::by_locks::LocksFirst;
 use measure::passage::Passage;
 use measure::tenths::Tenths;
 use queue::Queue;

@@ -3,7 +3,7 @@
 
 use chart::{Chart, Refusal};
 use chartfile::{Cause, Fault, load, write};
-use measure::by_length::{Cost, Length};
+use measure::by_length::Length;
 use std::alloc::{AllocError, Global};
 
 #[cfg(test)]

@@ -1,7 +1,7 @@
 use crate::{is_sound, told, tried};
 use chart::Chart;
 use chartfile::{load, write};
-use measure::by_length::{Cost, Length};
+use measure::by_length::Length;
 use std::alloc::Global;
 use std::fmt::Write;
 use std::process::Abort;

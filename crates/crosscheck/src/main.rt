@@ -3,8 +3,8 @@
 
 use crate::made::{Layout, Seed, Shape, make_legs};
 use crate::tally::{Tally, compare};
-use measure::by_length::{Cost, Length};
-use measure::by_locks::{Cost, LocksFirst};
+use measure::by_length::Length;
+use measure::by_locks::LocksFirst;
 use std::alloc::{AllocError, Global};
 
 mod made;

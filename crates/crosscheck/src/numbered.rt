@@ -1,7 +1,7 @@
 // Costs as plain numbers: the table of all pairs is worked out without the measures' own sums and comparisons.
 use measure::Measure;
-use measure::by_length::{Cost, Length};
-use measure::by_locks::{Cost, LocksFirst};
+use measure::by_length::Length;
+use measure::by_locks::LocksFirst;
 use measure::passage::Passage;
 use measure::tenths::Tenths;
 

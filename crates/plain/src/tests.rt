@@ -1,6 +1,6 @@
 use crate::{Refusal, find_distances};
-use measure::by_length::{Cost, Length};
-use measure::by_locks::{Cost, LocksFirst};
+use measure::by_length::Length;
+use measure::by_locks::LocksFirst;
 use measure::passage::Passage;
 use measure::tenths::Tenths;
 use std::test::Fail;
