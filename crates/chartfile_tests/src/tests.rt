@@ -200,9 +200,9 @@ fn chart_with_marks(rt: HostRuntime) -> Result<(), Fail> {
     let mut chart = Chart::begin(rt.alloc(), Length)?;
     assert!(rt; chart.add_mark().is_ok());
     match load(&mut chart, SMALL.as_bytes()) {
-        Ok(()) => Err(Fail::new("loaded")),
-        Err(fault) => check_eq(told(fault), (16, 0, 0)),
-    }?;
+        Ok(()) => return Err(Fail::new("loaded")),
+        Err(fault) => assert_eq!(rt; told(fault), (16, 0, 0)),
+    }
     assert_eq!(rt; chart.marks(), 1);
     Ok(())
 }
@@ -213,17 +213,17 @@ fn buffers(rt: HostRuntime) -> Result<(), Fail> {
     assert!(rt; load(&mut chart, SMALL.as_bytes()).is_ok());
     let mut short = [7u8; 47];
     match write(&chart, &mut short) {
-        Ok(_) => Err(Fail::new("written")),
-        Err(fault) => check_eq(fault.number(), 17),
-    }?;
+        Ok(_) => return Err(Fail::new("written")),
+        Err(fault) => assert_eq!(rt; fault.number(), 17),
+    }
     assert_eq!(rt; short, [7u8; 47]);
     let mut long = [7u8; 50];
     match write(&chart, &mut long) {
-        Ok(size) => check_eq(size, 48),
-        Err(_) => Err(Fail::new("refused")),
-    }?;
+        Ok(size) => assert_eq!(rt; size, 48),
+        Err(_) => return Err(Fail::new("refused")),
+    }
     assert!(rt; &long[0..48] == SMALL.as_bytes());
-    assert!(rt; &long[48..50] == [7u8; 2]);
+    assert!(rt; &long[48..50] == [7u8; 2].as_slice());
     Ok(())
 }
 

@@ -149,8 +149,8 @@ fn come_each_once<K: Cost, Q: Queue<K>>(
     let drawn = by_key(heap, queue, keys)?;
     assert_eq!(rt; queue.draws(), 4);
     let mut marks = marks_of(heap, drawn.as_slice())?;
-    marks.sort();
-    assert!(rt; marks.as_slice() == &[0, 1, 2, 3]);
+    marks.sort()?;
+    assert!(rt; marks.as_slice() == [0, 1, 2, 3].as_slice());
     Ok(())
 }
 
