@@ -1,5 +1,5 @@
 -- An accepted call, its value told in other words.
-use Rattle.std.proofs.Common.{◌≡◌, ℕ, List, [], ◌∷◌, Ok, Err, Result, ap, inl, inr, arith}
+use Rattle.std.proofs.Common.{◌≡◌, ℕ, List, [], ◌∷◌, Ok, Err, ap, inl, inr, arith}
 use Rattle.chart.specs.declared.refusal.Refusal.{Refusal}
 use Rattle.checks.specs.Checks.{Check, Answers}
 use Rattle.chart.specs.State.{State}

@@ -1,5 +1,5 @@
 -- Every chart is in a possible state.
-use Rattle.std.proofs.Common.{◌≡◌, ℕ, ◌<◌, Bool, false, List, [], ◌∷◌, length, Some, None, vec_items, Option, refl, arith}
+use Rattle.std.proofs.Common.{◌≡◌, ℕ, Bool, List, [], ◌∷◌, length, Some, None, Option, refl, arith}
 use Rattle.waterway.specs.declared.Leg.{Leg}
 use Rattle.chart.specs.declared.sheet.Chart.{Chart}
 use Rattle.chart.specs.Charted.{Charted, HomeIn}

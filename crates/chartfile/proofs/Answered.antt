@@ -1,5 +1,5 @@
 -- What a call's answer says of its checks.
-use Rattle.std.proofs.Common.{◌≡◌, ℕ, List, [], ◌∷◌, Ok, Err, Result, inl, inr, arith}
+use Rattle.std.proofs.Common.{◌≡◌, ℕ, List, [], ◌∷◌, Ok, Err, inl, inr, arith}
 use Rattle.chart.specs.declared.refusal.Refusal.{Refusal}
 use Rattle.checks.specs.Checks.{Check, Answers}
 use Rattle.chart.specs.State.{State}

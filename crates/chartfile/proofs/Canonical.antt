@@ -1,5 +1,5 @@
 -- Sound frames to the end of a file are those of the chart that they leave.
-use Rattle.std.proofs.Common.{◌≡◌, ℕ, zero, suc, ◌+◌, ◌<◌, ◌≤◌, Bool, true, false, ◌⊎◌, List, [], ◌∷◌, ◌++◌, map, length, get_or, set, Some, None, Option, sym, refl, ap, ◌∙◌, inl, inr, append_assoc, append-nil, arith, length-append, length-set}
+use Rattle.std.proofs.Common.{◌≡◌, ℕ, zero, suc, ◌+◌, ◌<◌, ◌≤◌, Bool, true, false, ◌⊎◌, List, [], ◌∷◌, ◌++◌, map, length, get_or, set, Some, None, sym, refl, ap, ◌∙◌, inl, inr, append_assoc, append-nil, arith, length-append, length-set}
 use native.Mathlib.Decide.{dec_lt}
 use Rattle.std.proofs.lemmas.List.{map_push}
 use Rattle.waterway.specs.declared.Leg.{Leg}
@@ -7,7 +7,7 @@ use Rattle.chart.specs.State.{State, marks, blank}
 use Rattle.chartfile.specs.declared.frame.Frame.{Frame}
 use Rattle.chartfile.specs.declared.frame.Frame.TheVariants.{Head, Entry, Pivot, Home, Last}
 use Rattle.chartfile.specs.Frames.{lines}
-use Rattle.chartfile.specs.File.{marked_from, home_frames, frames, all_frames, file}
+use Rattle.chartfile.specs.File.{marked_from, frames, all_frames, file}
 use Rattle.chartfile.specs.Order.{rank, Repeats, Follows, Complete, latest_of}
 use Rattle.chartfile.specs.Entries.{with_marks, entry_checks, entered, Passed, Sound, after}
 use Rattle.chartfile.specs.Loading.{Loaded}

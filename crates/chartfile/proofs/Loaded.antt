@@ -2,7 +2,7 @@
 use Rattle.std.proofs.Common.{◌≡◌, ℕ, suc, ◌+◌, ◌-◌, ◌%◌, ◌<◌, ◌≤◌, List, [], ◌∷◌, ◌++◌, length, take, drop, Some, None, sum, Option, sym, refl, ap, ◌∙◌, subst, append_assoc, append-nil, arith, length-append, length-drop, drop-drop}
 use Rattle.std.proofs.lemmas.List.{take_all, drop_all}
 use Rattle.chart.specs.State.{State, blank}
-use Rattle.chartfile.specs.declared.fault.Cause.TheVariants.{BadDigits, BadSum, BadFrame}
+use Rattle.chartfile.specs.declared.fault.Cause.TheVariants.{BadDigits, BadFrame}
 use Rattle.chartfile.specs.declared.fault.Fault.{Fault}
 use Rattle.chartfile.specs.declared.frame.Frame.{Frame}
 use Rattle.chartfile.specs.declared.place.Place.{Place}

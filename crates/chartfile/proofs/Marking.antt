@@ -1,5 +1,5 @@
 -- Marks added one after the other, and a leg that is entered and then closed.
-use Rattle.std.proofs.Common.{◌≡◌, ℕ, zero, suc, ◌+◌, ◌<◌, ◌≤◌, Bool, true, false, List, [], ◌∷◌, ◌++◌, length, set, sym, refl, ap, ◌∙◌, inl, inr, arith}
+use Rattle.std.proofs.Common.{◌≡◌, ℕ, zero, suc, ◌+◌, ◌<◌, ◌≤◌, true, false, [], ◌∷◌, ◌++◌, length, set, sym, refl, ap, ◌∙◌, inl, inr, arith}
 use lib.Seq.{set-append_seam}
 use Rattle.std.proofs.lemmas.List.{length_push, get_or_push}
 use Rattle.waterway.specs.declared.Leg.{Leg}

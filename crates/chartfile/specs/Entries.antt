@@ -1,6 +1,5 @@
 -- What a frame enters on a chart, and the frames that a chart takes one after the other.
-use Rattle.std.specs.Prelude.{◌≡◌, ℕ, zero, suc, ◌+◌, ◌<◌, true, false, ◌⊎◌, List, [], ◌∷◌, ◌++◌, Some, None, Option, Result, MatchResult}
-use Rattle.waterway.specs.declared.Leg.{Leg}
+use Rattle.std.specs.Prelude.{◌≡◌, ℕ, zero, suc, ◌+◌, ◌<◌, true, false, ◌⊎◌, List, [], ◌∷◌, ◌++◌, Some, Option, Result, MatchResult}
 use Rattle.chart.specs.declared.refusal.Refusal.{Refusal}
 use Rattle.chart.specs.declared.refusal.Refusal.TheVariants.{MarksFull}
 use Rattle.checks.specs.Checks.{Check, ◌refuses_by◌}

@@ -1,5 +1,5 @@
 -- What is wrong with a file that is no chart's: a number, a line, and the chart's own number where it refused an entry.
-use Rattle.std.specs.Prelude.{◌≡◌, ℕ, ◌+◌, ◌%◌, ◌<◌, ◌≤◌, ◌⊎◌, List, [], ◌∷◌, ◌++◌, length, None, sum, Option, ◌≢◌}
+use Rattle.std.specs.Prelude.{◌≡◌, ℕ, ◌+◌, ◌%◌, ◌<◌, ◌≤◌, List, [], ◌∷◌, ◌++◌, length, None, sum, Option, ◌≢◌}
 use Rattle.std.specs.List.{AllByRecursion as All}
 use Rattle.chart.specs.declared.refusal.Refusal.{Refusal}
 use Rattle.chart.specs.State.{State, blank}

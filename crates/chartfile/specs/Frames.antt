@@ -1,5 +1,5 @@
 -- The frames of a chart file, each written as one line.
-use Rattle.std.specs.Prelude.{ℕ, ◌+◌, ◌-◌, ◌/◌, ◌%◌, Bool, true, false, List, [], ◌∷◌, ◌++◌, sum}
+use Rattle.std.specs.Prelude.{ℕ, ◌-◌, ◌/◌, ◌%◌, Bool, true, false, List, [], ◌∷◌, ◌++◌, sum}
 use Rattle.waterway.specs.declared.Leg.{Leg}
 use Rattle.chartfile.specs.declared.frame.Frame.{Frame}
 use Rattle.chartfile.specs.declared.frame.Frame.TheVariants.{Head, Entry, Pivot, Home, Last}

@@ -1,8 +1,7 @@
 -- Loading a file onto a chart.
-use Rattle.std.specs.Prelude.{◌≡◌, ℕ, ◌+◌, ◌<◌, ◌≤◌, true, false, List, ◌++◌, length, drop, is_ok, Some, None, Err, Option, Result, MatchResult}
+use Rattle.std.specs.Prelude.{◌≡◌, ℕ, ◌<◌, ◌≤◌, true, false, List, ◌++◌, length, drop, is_ok, None, Err, Option, Result, MatchResult}
 use Rattle.chart.specs.Possible.{Possible}
 use Rattle.chart.specs.State.{State, marks, blank}
-use Rattle.chartfile.specs.declared.fault.Cause.{Cause}
 use Rattle.chartfile.specs.declared.fault.Cause.TheVariants.{HasMarks}
 use Rattle.chartfile.specs.declared.fault.Fault.{Fault}
 use Rattle.chartfile.specs.declared.frame.Frame.{Frame}
@@ -10,8 +9,8 @@ use Rattle.chartfile.specs.declared.place.Place.{Place}
 use Rattle.chartfile.specs.Frames.{body, checked, lines}
 use Rattle.chartfile.specs.File.{file, unworked}
 use Rattle.chartfile.specs.Order.{Follows, Complete, latest_of}
-use Rattle.chartfile.specs.Entries.{entry_checks, entered, Passed, Sound, after}
-use Rattle.chartfile.specs.Faults.{FirstLine, BadLine, Faulty}
+use Rattle.chartfile.specs.Entries.{Sound, after}
+use Rattle.chartfile.specs.Faults.{FirstLine, Faulty}
 
 -- the first line of a text, so long, is a frame that may follow
 pub record FrameLine (n : ℕ) (latest : Option Frame) (text : List ℕ) (frame : Frame) (long : ℕ) : Type 0 where

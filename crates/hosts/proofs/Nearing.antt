@@ -9,7 +9,6 @@ use Rattle.waterway.specs.Ways.{Water, Sound, Dear}
 use Rattle.waterway.specs.Hosts.{Host as Nearest, InBall as Inside}
 use Rattle.waterway.proofs.Hosts as hosts-are
 use Rattle.waterway.proofs.Metric as metric
-use Rattle.waterway.proofs.Balls as balls
 use Rattle.waterway.specs.declared.Label.{Label}
 use Rattle.bundling.specs.declared.Near.{Near}
 use Rattle.waterway.specs.Labels.{label_of}

@@ -11,7 +11,7 @@ use Rattle.waterway.specs.Ways.{Walk, stay, along, Water, Sound, Dear}
 use Rattle.waterway.specs.Hosts.{Host as Nearest}
 use Rattle.waterway.proofs.Bills as bills
 use Rattle.waterway.proofs.Metric as metric
-use Rattle.waterway.proofs.Distance.{dist, dist_found, dist_is}
+use Rattle.waterway.proofs.Distance.{dist_found, dist_is}
 use Rattle.waterway.specs.declared.Label.{Label}
 use Rattle.bundling.specs.declared.Host.{Host}
 use Rattle.waterway.specs.Labels.{label_of}
@@ -23,10 +23,9 @@ use Rattle.bundling.proofs.Queue.{true_false, either_way}
 use Rattle.bundling.proofs.Nearby.{away}
 use Rattle.bundling.proofs.Steps.{Ready}
 use Rattle.bundling.proofs.Draw.{key_upto}
-use Rattle.bundling.proofs.Water.{ways}
 use Rattle.relaxing.proofs.Runs.{within_reach}
 use Rattle.bundling.proofs.Pivots.{holds}
-use Rattle.relaxing.proofs.Voyage.{H, held, lowest, at_u, sure, all_told}
+use Rattle.relaxing.proofs.Voyage.{H, held, lowest, at_u, all_told}
 
 module _ {C : Type 0} {K : Kind C} {selves : List (Host C)} {n : ℕ} (own : Selves K selves n) where
   self_host : (v : ℕ) → v < n → host_in K selves v ≡ v

@@ -1,5 +1,5 @@
 -- Two ways to price a way that look like measures and are none.
-use Rattle.std.specs.Prelude.{◌≡◌, ℕ, ◌+◌, max}
+use Rattle.std.specs.Prelude.{ℕ, ◌+◌, max}
 use Rattle.measure.specs.Kind.{Kind, Lawful}
 use Rattle.measure.specs.Legal.{Legal}
 use Rattle.measure.specs.Limited.{limited}

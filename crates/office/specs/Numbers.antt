@@ -1,5 +1,5 @@
 -- The numbers of the command language, as the bytes that write them.
-use Rattle.std.specs.Prelude.{◌≡◌, ℕ, ◌+◌, ◌-◌, ◌*◌, ◌^◌, min, ◌⊎◌, List, [], ◌∷◌, ◌++◌, length, Option, MatchOption}
+use Rattle.std.specs.Prelude.{◌≡◌, ℕ, ◌+◌, ◌-◌, ◌*◌, ◌^◌, min, ◌⊎◌, List, ◌∷◌, ◌++◌, length, Option, MatchOption}
 use Rattle.std.specs.Str.Parse.{IsNumeral, digits_value}
 
 -- a greater number counts as this one

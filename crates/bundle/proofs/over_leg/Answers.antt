@@ -1,4 +1,3 @@
-use Rattle.std.proofs.Common.{arith}
 use Rattle.waterway.specs.Ways.{Joins}
 use Rattle.waterway.specs.Priced.{water}
 use Rattle.waterway.proofs.Priced.{priced_sound}

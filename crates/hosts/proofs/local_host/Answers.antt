@@ -1,4 +1,4 @@
-use Rattle.std.proofs.Common.{Some, None, refl, arith}
+use Rattle.std.proofs.Common.{Some, None, refl}
 use Rattle.waterway.proofs.Priced.{priced_sound, priced_dear}
 use Rattle.hosts.proofs.Nearing.{made_pivot, made_none, made_some, nearest_moved, written_moved}
 use Rattle.hosts.proofs.local_host.Goals as goal

@@ -1,4 +1,4 @@
-use Rattle.std.proofs.Common.{sym, arith}
+use Rattle.std.proofs.Common.{arith}
 use Rattle.chartfile.proofs.Splices.{splice_two}
 use Rattle.chartfile.proofs.writing.put_byte.Goals as goal
 

@@ -1,7 +1,4 @@
-use Rattle.std.proofs.Common.{◌≡◌, ℕ, List, [], length, sym, arith}
-use Rattle.chartfile.specs.declared.frame.Frame.{Frame}
-use Rattle.chartfile.specs.Frames.{lines}
-use Rattle.chartfile.specs.File.{home_frames}
+use Rattle.std.proofs.Common.{sym, arith}
 use Rattle.chartfile.proofs.Splices.{splice_none}
 use Rattle.chartfile.proofs.writing.put_home.Goals as goal
 

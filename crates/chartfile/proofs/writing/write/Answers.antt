@@ -1,6 +1,6 @@
-use Rattle.std.proofs.Common.{◌≡◌, ◌+◌, ◌*◌, length, is_some, Ok, refl, ap, ◌∙◌, arith}
+use Rattle.std.proofs.Common.{◌≡◌, length, Ok, refl, ap, arith}
 use Rattle.chart.specs.Shown.{state}
-use Rattle.chartfile.specs.File.{marked_from, home_frames, file}
+use Rattle.chartfile.specs.File.{file}
 use Rattle.chartfile.proofs.Written.{homes_are, length_file, count_frames, file_written}
 use Rattle.chartfile.proofs.writing.write.Goals as goal
 
