@@ -1,16 +1,16 @@
 -- The numbers with a property, listed one after the other.
 use Rattle.std.proofs.Common.{◌≡◌, ℕ, ◌+◌, ◌<◌, List, [], ◌∷◌, ◌++◌, inl, inr, arith}
 use native.Mathlib.Decide.{ℕ_discrete}
-use Rattle.std.specs.List.{ContainsAt as Has, AllByRecursion as All}
+use Rattle.std.specs.List.{ContainsAt as Has, AllByRecursion}
 use Rattle.std.proofs.ByRecursion.{has_push, has_push_cases, has_append_left, All-push}
 use Rattle.waterway.specs.Counts.{Rising, Lists}
 use Rattle.waterway.proofs.Counted.{has_here, has_there}
 
-rising_push : (xs : List ℕ) (m : ℕ) → Rising xs → All (λ x. x < m) xs → Rising (xs ++ m ∷ [])
+rising_push : (xs : List ℕ) (m : ℕ) → Rising xs → AllByRecursion (λ x. x < m) xs → Rising (xs ++ m ∷ [])
 rising_push [] m r a = (tt, tt)
 rising_push (x ∷ xs) m r a = (All-push (λ y. x < y) xs m r.0 a.0, rising_push xs m r.1 a.1)
 
-all_if : (P : ℕ → Type 0) (xs : List ℕ) → ((x : ℕ) → Has xs x → P x) → All P xs
+all_if : (P : ℕ → Type 0) (xs : List ℕ) → ((x : ℕ) → Has xs x → P x) → AllByRecursion P xs
 all_if P [] h = tt
 all_if P (x ∷ xs) h = (h x (has_here x xs), all_if P xs (λ y g. h y (has_there x y xs g)))
 

@@ -31,7 +31,7 @@ pub fn run<M: Measure + Drop>(
     Ok(answers)
 }
 
-fn perform<M: Measure>(chart: &mut Chart<M>, call: Call) -> Result<Answer, Refusal>
+pub fn perform<M: Measure>(chart: &mut Chart<M>, call: Call) -> Result<Answer, Refusal>
     ensures { Brings (checks (state chart.old) call) (given (state chart.old) call) (state chart.old) (next (state chart.old) call) result (state chart.new) }
 {
     Ok(match call {

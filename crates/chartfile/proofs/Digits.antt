@@ -1,7 +1,7 @@
 -- Hexadecimal digits and the bytes that they spell.
 use Rattle.std.proofs.Common.{◌≡◌, ℕ, zero, suc, ◌+◌, ◌*◌, ◌/◌, ◌%◌, ◌<◌, ◌≤◌, ◌≢◌, ◌⊎◌, List, [], ◌∷◌, ◌++◌, length, get_or, take, drop, set, refl, ap, ◌∙◌, inl, inr, add-one, arith, length-take-le, drop-cons, get_or-set_other, get_or-take, get_or-set_same, below_more}
 use native.Mathlib.Decide.{dec_lt}
-use Rattle.std.specs.List.{AllByRecursion as All}
+use Rattle.std.specs.List.{AllByRecursion}
 use Rattle.std.proofs.ByRecursion.{All-from_get_or}
 use Rattle.std.proofs.lemmas.Bool.Decides.{nat_tests}
 use Rattle.chartfile.specs.Hex.{digit, hex, Spelled, Ended}
@@ -38,7 +38,7 @@ begins (b ∷ bytes) (x ∷ y ∷ text) all =
     rw (double_suc (length bytes)) (cc)
 
 -- and digits spell their bytes
-pub spells : (bytes rest : List ℕ) (k : ℕ) → All (λ b. b < 256) bytes → k < length bytes → Spelled (hex bytes ++ rest) (2 * k) (get_or bytes k 0)
+pub spells : (bytes rest : List ℕ) (k : ℕ) → AllByRecursion (λ b. b < 256) bytes → k < length bytes → Spelled (hex bytes ++ rest) (2 * k) (get_or bytes k 0)
 spells [] rest k each inside = absurd (omega arith)
 spells (b ∷ bytes) rest zero each inside = record { byte = each.0; inside = omega arith; high = refl; low = refl }
 spells (b ∷ bytes) rest (suc k) each inside = rw (double_suc k) (sooner _ _ _ (2 * k) _ (spells bytes rest k each.1 (omega arith)))

@@ -2,7 +2,7 @@
 use Rattle.std.proofs.Common.{◌≡◌, ℕ, suc, ◌+◌, ◌/◌, ◌%◌, ◌<◌, ◌≤◌, Bool, true, false, List, [], ◌∷◌, ◌++◌, map, length, Some, None, sum, Option, sym, refl, ap, ◌∙◌, subst, inl, inr, append_assoc, append-nil, arith, length-append}
 use lib.ListN.{length-map}
 use lib.Seq.{append_snoc}
-use Rattle.std.specs.List.{AllByRecursion as All}
+use Rattle.std.specs.List.{AllByRecursion}
 use Rattle.std.proofs.ByRecursion.{All-from_get_or, All-append, All-push, All-map, All-weaker}
 use Rattle.std.proofs.lemmas.List.Sums.{sum_by_push}
 use Rattle.std.proofs.lemmas.Bool.Decides.{nat_tests}
@@ -81,7 +81,7 @@ sound_rest : (n : ℕ) (l : Option Frame) (s : State) (fs gs : List Frame) (k : 
 sound_rest n l s [] gs k is sound = let same : k ≡ n = omega arith in rw same sound
 sound_rest n l s (f ∷ fs) gs k is sound = sound_rest (suc n) (Some f) (entered s f) fs gs k (omega arith) sound.2
 
-all_rest : {X : Type 0} (P : X → Type 0) (xs ys : List X) → All P (xs ++ ys) → All P ys
+all_rest : {X : Type 0} (P : X → Type 0) (xs ys : List X) → AllByRecursion P (xs ++ ys) → AllByRecursion P ys
 all_rest P [] ys all = all
 all_rest P (x ∷ xs) ys all = all_rest P xs ys all.1
 
@@ -107,7 +107,7 @@ kind_byte : (b : Bool) → leg_kind b < 256
 kind_byte true = omega arith
 kind_byte false = omega arith
 
-body_bytes : (f : Frame) → Fits f → All (λ (b : ℕ). b < 256) (body f)
+body_bytes : (f : Frame) → Fits f → AllByRecursion (λ (b : ℕ). b < 256) (body f)
 body_bytes (Head marks) fits = (omega arith, (omega arith, (omega arith, (omega arith, tt))))
 body_bytes (Entry leg) fits =
     (kind_byte leg.«open», (omega arith, (omega arith, (omega arith, (omega arith, (omega arith, (omega arith, (omega arith, tt))))))))
@@ -135,7 +135,7 @@ first_line f fs fits =
 
 -- The numbers of a possible chart fit
 
-marked_below : (k n : ℕ) (pivots : List Bool) → k + length pivots ≡ n → All (λ (mark : ℕ). mark < n) (marked_from k pivots)
+marked_below : (k n : ℕ) (pivots : List Bool) → k + length pivots ≡ n → AllByRecursion (λ (mark : ℕ). mark < n) (marked_from k pivots)
 marked_below k n [] end = tt
 marked_below k n (true ∷ pivots) end = (omega arith, marked_below (suc k) n pivots (omega arith))
 marked_below k n (false ∷ pivots) end = marked_below (suc k) n pivots (omega arith)
@@ -145,11 +145,11 @@ marked_few k [] = omega arith
 marked_few k (true ∷ pivots) = let few = marked_few (suc k) pivots in omega arith
 marked_few k (false ∷ pivots) = let few = marked_few (suc k) pivots in omega arith
 
-home_fits : (n : ℕ) (home : Option ℕ) → n ≤ 256 → HomeIn n home → All Fits (home_frames home) × (length (home_frames home) ≤ 1)
+home_fits : (n : ℕ) (home : Option ℕ) → n ≤ 256 → HomeIn n home → AllByRecursion Fits (home_frames home) × (length (home_frames home) ≤ 1)
 home_fits n None few inside = (tt, omega arith)
 home_fits n (Some h) few inside = let on = inside h refl in ((omega arith, tt), omega arith)
 
-all_fit : (s : State) → Possible s → All Fits (all_frames s)
+all_fit : (s : State) → Possible s → AllByRecursion Fits (all_frames s)
 all_fit s p =
     let few = p.marks_few in
     let some_legs = p.legs_few in
@@ -160,7 +160,7 @@ all_fit s p =
     let leg_fits : (k : ℕ) → k < length s.legs → Fits (Entry (leg_at s.legs k)) = λ k inside. let lies = p.charted k inside in (omega arith, omega arith, omega arith, omega arith) in
     let legs_fit = All-map Fits Entry s.legs (All-from_get_or (λ (leg : Leg). Fits (Entry leg)) s.legs no_leg leg_fits) in
     let pivots_fit = All-map Fits Pivot marked (All-weaker (λ (mark : ℕ). mark < marks s) (λ mark. mark < 65536) (λ mark h. omega arith) marked (marked_below 0 (marks s) s.pivots (omega arith))) in
-    let frames_fit : All Fits (frames s) = (omega arith, All-append Fits legs (pivots ++ home_frames s.home) legs_fit (All-append Fits pivots (home_frames s.home) pivots_fit home.0)) in
+    let frames_fit : AllByRecursion Fits (frames s) = (omega arith, All-append Fits legs (pivots ++ home_frames s.home) legs_fit (All-append Fits pivots (home_frames s.home) pivots_fit home.0)) in
     let long = length-append legs (pivots ++ home_frames s.home) in
     let longer = length-append pivots (home_frames s.home) in
     let leg_count = length-map s.legs Entry in
@@ -177,7 +177,7 @@ module _ (n : ℕ) (latest : Option Frame) (s : State) where
   not_bad_bytes f bytes is follows passed (refused g {refusal} also next by) =
       not_both (entry_checks s f) refusal passed (subst (λ (h : Frame). RefusedBy (entry_checks s h) refusal) (one_frame bytes g f also is) by)
 
-  not_bad : (fs : List Frame) {text : List ℕ} {cause : Cause} → Sound n latest s fs → Complete (latest_of latest fs) → All Fits fs → text ≡ lines fs → BadLine n latest s text cause → ⊥
+  not_bad : (fs : List Frame) {text : List ℕ} {cause : Cause} → Sound n latest s fs → Complete (latest_of latest fs) → AllByRecursion Fits fs → text ≡ lines fs → BadLine n latest s text cause → ⊥
   not_bad [] sound complete fits is (missing none) = none complete
   not_bad (f ∷ fs) sound complete fits is (missing none) = not_empty (checked (body f)) (lines fs) (is ∙ line_then f (lines fs))
   not_bad [] sound complete fits is (no_digits none) = omega (arith, ap length is)
@@ -195,7 +195,7 @@ not_faulty s text fault p is faulty =
     let all = over.1 in
     let sound = subst (λ (fs : List Frame). Sound 0 None blank fs) all (whole_sound s p) in
     let complete = subst (λ (fs : List Frame). Complete (latest_of None fs)) all (whole_complete s) in
-    let fits = subst (All Fits) all (all_fit s p) in
+    let fits = subst (AllByRecursion Fits) all (all_fit s p) in
     not_bad (length before) (latest_of None before) (after blank before) left
     (sound_rest 0 None blank before left (length before) (omega arith) sound)
     (subst Complete (latest_append None before left) complete)

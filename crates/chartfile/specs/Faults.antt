@@ -1,6 +1,6 @@
 -- What is wrong with a file that is no chart's: a number, a line, and the chart's own number where it refused an entry.
 use Rattle.std.specs.Prelude.{◌≡◌, ℕ, ◌+◌, ◌%◌, ◌<◌, ◌≤◌, List, [], ◌∷◌, ◌++◌, length, None, sum, Option, ◌≢◌}
-use Rattle.std.specs.List.{AllByRecursion as All}
+use Rattle.std.specs.List.{AllByRecursion}
 use Rattle.chart.specs.declared.refusal.Refusal.{Refusal}
 use Rattle.chart.specs.State.{State, blank}
 use Rattle.chartfile.specs.declared.fault.Cause.{Cause}
@@ -24,7 +24,7 @@ pub record FirstLine (text bytes rest : List ℕ) : Type 0 where
   pub is : text ≡ hex bytes ++ 10 ∷ rest
   pub some : 1 ≤ length bytes
   pub few : length bytes ≤ 32
-  pub each : All (λ b. b < 256) bytes
+  pub each : AllByRecursion (λ b. b < 256) bytes
 
 -- what is wrong with bytes that add up, or do not, after n frames
 pub data BadBytes (n : ℕ) (latest : Option Frame) (s : State) (bytes : List ℕ) : Cause → Type 0 where

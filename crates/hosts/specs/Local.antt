@@ -1,7 +1,7 @@
 -- The search round one mark, in which every mark is its own host.
 use Rattle.std.specs.Prelude.{◌≡◌, ℕ, ◌+◌, ◌<◌, ◌≤◌, Bool, true, false, ◌⊎◌, List, map, length, Some, None, MatchBool, Option, ◌≢◌, slice_index_or}
 use Rattle.measure.specs.Kind.{Kind, AtMost}
-use Rattle.std.specs.List.{AllByRecursion as All}
+use Rattle.std.specs.List.{AllByRecursion}
 use Rattle.waterway.specs.Ways.{Water, Dist}
 use Rattle.waterway.specs.Counts.{Lists}
 use Rattle.waterway.specs.Near.{BallRows, Balls, blank as blank-row}
@@ -63,7 +63,7 @@ pair r = (r.mark, r.cost)
 -- the marks below i with a label below the rim, by rising number, each with its label
 pub record Inner {C : Type 0} (K : Kind C) (labels : List (Label C)) (rim : C) (i : ℕ) (rows : List (ℕ × C)) : Type 0 where
   pub members : Lists (λ w. (d : C) × (label_of K labels w ≡ Some d) × (K.Below d rim)) i (map (λ r. r.0) rows)
-  pub costs : All (λ r. (label_of K labels r.0 ≡ Some r.1) × (K.Below r.1 rim)) rows
+  pub costs : AllByRecursion (λ r. (label_of K labels r.0 ≡ Some r.1) × (K.Below r.1 rim)) rows
 
 -- the rows stand in the near table from `first` on, as far as it reaches
 pub record Stand {C : Type 0} (K : Kind C) (near : List (Near C)) (first : ℕ) (rows : List (ℕ × C)) : Type 0 where

@@ -2,7 +2,7 @@
 use Rattle.std.proofs.Common.{◌≡◌, ℕ, ◌+◌, ◌*◌, ◌^◌, ◌<◌, ◌≤◌, ◌⊎◌, List, [], ◌∷◌, ◌++◌, map, length, Some, sym, refl, ap, ◌∙◌, inl, inr, arith}
 use native.Mathlib.Decide.{dec_lt}
 use lib.ListN.{length-map, get_or-eq_default}
-use Rattle.std.specs.List.{AllByRecursion as All}
+use Rattle.std.specs.List.{AllByRecursion}
 use Rattle.std.proofs.lemmas.List.{get_or-map}
 use Rattle.measure.specs.Kind.{Kind, onto}
 use Rattle.measure.proofs.Sums as sums
@@ -72,7 +72,7 @@ module _ {C : Type 0} {K : Kind C} {W : Water K} {n : ℕ} (S : Sound W n) where
       let b = S.to_in k j.stands in
       elim j.ends [ inl e ↦ (omega arith, omega arith) | inr e ↦ (omega arith, omega arith) ]
 
-  pub marks_in : {u v : ℕ} {ks ms : List ℕ} → Walk W.legs u v ks ms → u < n → All (λ m. m < n) ms
+  pub marks_in : {u v : ℕ} {ks ms : List ℕ} → Walk W.legs u v ks ms → u < n → AllByRecursion (λ m. m < n) ms
   marks_in stay h = (h, tt)
   marks_in (along j p) h = (h, marks_in p (joins_in j).1)
 

@@ -1,12 +1,12 @@
 -- The numbers below n with a property that is decided are listed in one way, and so counted.
 use Rattle.std.proofs.Common.{◌≡◌, ℕ, zero, suc, ◌<◌, ◌⊎◌, List, [], ◌∷◌, ◌++◌, length, sym, refl, ap, ◌∙◌, ap₂, inl, inr, arith}
 use native.Mathlib.Decide.{ℕ_discrete}
-use Rattle.std.specs.List.{ContainsAt as Has, AllByRecursion as All}
+use Rattle.std.specs.List.{ContainsAt as Has, AllByRecursion}
 use Rattle.std.proofs.ByRecursion.{has_push, has_push_cases, has_append_left, all-has, All-push}
 use Rattle.waterway.specs.Counts.{Rising, Lists, Counts}
 
 -- a greater number put at the end
-rising_push : (xs : List ℕ) (m : ℕ) → Rising xs → All (λ x. x < m) xs → Rising (xs ++ m ∷ [])
+rising_push : (xs : List ℕ) (m : ℕ) → Rising xs → AllByRecursion (λ x. x < m) xs → Rising (xs ++ m ∷ [])
 rising_push [] m r a = (tt, tt)
 rising_push (x ∷ xs) m r a = (All-push (λ y. x < y) xs m r.0 a.0, rising_push xs m r.1 a.1)
 
@@ -21,7 +21,7 @@ pub has_cases : (x y : ℕ) (xs : List ℕ) → Has (x ∷ xs) y → (x ≡ y) �
 has_cases x y xs (zero, lt, at) = inl (at 0)
 has_cases x y xs (suc k, lt, at) = inr (k, omega arith, at)
 
-all_if : (P : ℕ → Type 0) (xs : List ℕ) → ((x : ℕ) → Has xs x → P x) → All P xs
+all_if : (P : ℕ → Type 0) (xs : List ℕ) → ((x : ℕ) → Has xs x → P x) → AllByRecursion P xs
 all_if P [] h = tt
 all_if P (x ∷ xs) h = (h x (has_here x xs), all_if P xs (λ y g. h y (has_there x y xs g)))
 
@@ -58,7 +58,7 @@ rising_unique (x ∷ xs) (y ∷ ys) r s to from =
     (λ z h. rest z (all-has (λ w. x < w) xs z r.0 h) (to z (has_there x z xs h)))
     (λ z h. back z (all-has (λ w. y < w) ys z s.0 h) (from z (has_there y z ys h))))
   where
-    above : (a b : ℕ) (bs : List ℕ) → All (λ w. b < w) bs → (a ≡ b) ⊎ Has bs a → (b ≡ a) ⊎ (b < a)
+    above : (a b : ℕ) (bs : List ℕ) → AllByRecursion (λ w. b < w) bs → (a ≡ b) ⊎ Has bs a → (b ≡ a) ⊎ (b < a)
     above a b bs all (inl e) = inl (sym e)
     above a b bs all (inr h) = inr (all-has (λ w. b < w) bs a all h)
 

@@ -1,0 +1,3 @@
+mod Filed
+mod Retold
+mod Telling

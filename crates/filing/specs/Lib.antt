@@ -1,0 +1,4 @@
+pub mod Calling
+pub mod Filing
+pub mod Law
+pub mod Refusals
