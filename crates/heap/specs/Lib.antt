@@ -1,5 +1,3 @@
 pub mod Heaps
 pub mod Moves
-pub mod MovesLemmas
-pub mod Swaps
-pub mod Trees
+pub mod Within
