@@ -10,9 +10,12 @@ pub enum Unit {
 }
 
 #[derive(Clone, Copy)]
-pub enum Command {
+pub enum Command<'t> {
     Measure(Unit),
     Call(Call),
+    // A path.
+    Load(&'t str),
+    Save(&'t str),
 }
 
 // What is wrong with a line that is no command.
@@ -25,14 +28,14 @@ pub enum Slip {
 }
 
 // The command that the words of a line say.
-pub fn parse(words: &[&str]) -> Result<Command, Slip> {
+pub fn parse<'t>(words: &[&'t str]) -> Result<Command<'t>, Slip> {
     let Some(command) = command_of(words) else {
         return Err(slip_of(words));
     };
     Ok(command)
 }
 
-fn command_of(words: &[&str]) -> Option<Command> {
+fn command_of<'t>(words: &[&'t str]) -> Option<Command<'t>> {
     Some(match words {
         ["measure", "length"] => Command::Measure(Unit::Length),
         ["measure", "locks"] => Command::Measure(Unit::Locks),
@@ -43,6 +46,8 @@ fn command_of(words: &[&str]) -> Option<Command> {
         ["home", mark] => Command::Call(Call::SetHome(number_of(mark)?)),
         ["pivot", mark, "yes"] => Command::Call(Call::SetPivot(number_of(mark)?, true)),
         ["pivot", mark, "no"] => Command::Call(Call::SetPivot(number_of(mark)?, false)),
+        ["load", path] => Command::Load(path),
+        ["save", path] => Command::Save(path),
         _ => return None,
     })
 }
@@ -70,6 +75,8 @@ fn slip_of(words: &[&str]) -> Slip {
         ["open", ..] => Slip::Form("open N"),
         ["home", ..] => Slip::Form("home N"),
         ["pivot", ..] => Slip::Form("pivot N yes|no"),
+        ["load", ..] => Slip::Form("load PATH"),
+        ["save", ..] => Slip::Form("save PATH"),
         _ => Slip::NoCommand,
     }
 }
