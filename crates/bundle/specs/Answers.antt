@@ -5,7 +5,7 @@ use Rattle.queue.specs.Held.{Held, Alike, cleared}
 use Rattle.waterway.specs.declared.Label.{Label}
 use Rattle.waterway.specs.Ways.{Water, Dist, Tells}
 use Rattle.waterway.specs.Counts.{Counts}
-use Rattle.waterway.specs.Near.{NearTable, blank as blank-row}
+use Rattle.waterway.specs.Near.{NearTable, blank as blank_row}
 use Rattle.waterway.specs.Labels.{label_of}
 use Rattle.bundling.specs.declared.Near.{Near}
 use Rattle.relaxing.specs.Offers.{Blank, Clean}
@@ -26,7 +26,7 @@ pub record Emptied {C : Type 0} (h h' : Held C) (draws : ℕ) : Type 0 where
 
 -- every row is blank
 pub record NoRows {C : Type 0} (K : Kind C) (near : List (Near C)) : Type 0 where
-  pub each : (j : ℕ) → j < length near → pair (near_at K near j) ≡ blank-row K
+  pub each : (j : ℕ) → j < length near → pair (near_at K near j) ≡ blank_row K
 
 -- the near table holds the balls, each label tells the distance from home, and what is counted is right:
 -- the pivots with a way home, which were drawn; the marks of all balls; the marks with a way home

@@ -6,7 +6,7 @@ use Rattle.std.specs.Ordering.{MatchOrdering}
 use Rattle.measure.specs.Kind.{Kind, Lawful}
 use Rattle.waterway.specs.Ways.{Water, Apart, Tells, Sound, Dear}
 use Rattle.waterway.specs.Routes.{Nearer, StepHome, Route, at_home, onward}
-use Rattle.waterway.proofs.Steps as steps-are
+use Rattle.waterway.proofs.Steps as steps_are
 use Rattle.waterway.proofs.Routes as routes
 use Rattle.waterway.proofs.Bills as bills
 use Rattle.waterway.proofs.Walks.{marks_length}
@@ -56,7 +56,7 @@ module _ {C : Type 0} {K : Kind C} {W : Water K} {home : ℕ} {labels : List (La
   pub no_step : {n : ℕ} (S : Sound W n) (v : ℕ) → (v ≡ home → ⊥) → ((j : ℕ) → j < length W.legs → (x : ℕ) → Back W labels v j x → ⊥) → (v ≡ home) ⊎ Apart W home v
   no_step S v ne none = inr (elim (either_option (label_of K labels v)) [
     | inl e ↦ (tells v).none.0 e
-    | inr e ↦ (let s = steps-are.step_exists S home v e.0 (((tells v).some e.0).0 e.1) ne in
+    | inr e ↦ (let s = steps_are.step_exists S home v e.0 (((tells v).some e.0).0 e.1) ne in
         absurd (none s.0 s.2.nearer.joins.stands s.1 (nearer_back s.2.nearer)))
   ])
 
@@ -88,7 +88,7 @@ module _ {C : Type 0} {K : Kind C} {W : Water K} {n : ℕ} (S : Sound W n) (dear
   step_is {v} s is o = go s.known refl
     where
       go : (b : Bool) → s.known ≡ b → (s.known ≡ true) × ((o.k ≡ s.leg) × (o.w ≡ s.next))
-      go true e = (e, steps-are.step_unique S home o.step (rw e at is))
+      go true e = (e, steps_are.step_unique S home o.step (rw e at is))
       go false e = elim (rw e at is) [
         | inl same ↦ absurd (o.step.away same)
         | inr apart ↦ (let D = o.step.nearer.to_v in absurd (apart D.ks D.ms D.way))

@@ -13,10 +13,10 @@ use Rattle.waterway.specs.Ways.{Walk, stay, along, Water, Sound, Dear}
 use Rattle.waterway.specs.Counts.{Counts}
 use Rattle.waterway.specs.Hosts.{Host as Nearest, InBall as Inside}
 use Rattle.waterway.proofs.Bills as bills
-use Rattle.waterway.specs.Near.{none, then, NearTable, blank as blank-row}
+use Rattle.waterway.specs.Near.{none, then, NearTable, blank as blank_row}
 use Rattle.waterway.proofs.Counted.{has_cases}
-use Rattle.waterway.proofs.Balls as balls-are
-use Rattle.waterway.proofs.Hosts as hosts-are
+use Rattle.waterway.proofs.Balls as balls_are
+use Rattle.waterway.proofs.Hosts as hosts_are
 use Rattle.bundling.specs.declared.Host.{Host}
 use Rattle.bundling.specs.declared.Near.{Near}
 use Rattle.bundling.specs.Marks.{no_host, host_at, pivot_in, host_in, away_in}
@@ -89,23 +89,23 @@ module _ {C : Type 0} {K : Kind C} {W : Water K} {n : ℕ} {pivots : List Bool} 
   }
 
   -- the balls, and then blanks
-  pub near_table : at ≤ length near' → HostsMade W n pivots hosts near n at → ((j : ℕ) → at ≤ j → j < length near' → pair (near_at K near' j) ≡ blank-row K)
+  pub near_table : at ≤ length near' → HostsMade W n pivots hosts near n at → ((j : ℕ) → at ≤ j → j < length near' → pair (near_at K near' j) ≡ blank_row K)
       → NearTable W n (pivot_of pivots) (map pair near')
   near_table room done blank =
       let rest = length near' - at in
-      let sizes = length-append done.rows (replicate rest (blank-row K)) in
-      let many = length-replicate rest (blank-row K) in
+      let sizes = length-append done.rows (replicate rest (blank_row K)) in
+      let many = length-replicate rest (blank_row K) in
       let all = length-map near' pair in
       record {
         rows = done.rows;
         blanks = rest;
         balls = done.balls;
-        is = ext_get_or (0, K.zero) (map pair near') (done.rows ++ replicate rest (blank-row K)) (omega (arith, sizes, many, all, done.many)) (λ j lt.
+        is = ext_get_or (0, K.zero) (map pair near') (done.rows ++ replicate rest (blank_row K)) (omega (arith, sizes, many, all, done.many)) (λ j lt.
             get_or-map pair near' j (record { mark = 0; cost = K.zero }) (0, K.zero) (omega (arith, all)) ∙ elim (dec_lt j at) [
               | yes less ↦ ap pair (same j less) ∙ (done.stand.each j j (omega arith) (omega (arith, done.many)) (omega (arith, all, long))
-                  ∙ sym (get_or_append_left done.rows (replicate rest (blank-row K)) (0, K.zero) j (omega (arith, done.many))))
+                  ∙ sym (get_or_append_left done.rows (replicate rest (blank_row K)) (0, K.zero) j (omega (arith, done.many))))
               | no past ↦ blank j (omega arith) (omega (arith, all))
-                  ∙ sym (get_or-append_right done.rows (replicate rest (blank-row K)) at j (0, K.zero) done.many (omega arith) ∙ get_or-replicate rest (j - at) (blank-row K) (0, K.zero) (omega (arith, all)))
+                  ∙ sym (get_or-append_right done.rows (replicate rest (blank_row K)) at j (0, K.zero) done.many (omega arith) ∙ get_or-replicate rest (j - at) (blank_row K) (0, K.zero) (omega (arith, all)))
             ]);
       }
 
@@ -139,7 +139,7 @@ module _ {C : Type 0} {K : Kind C} {W : Water K} {n : ℕ} (S : Sound W n) (dear
     | inl lt ↦ elim (either_way (pivot_of pivots p)) [
       | inl is ↦ (let own = (made_pivot S dear pivots p lt 0 near is).host in
           elim (either_way (host_at K hosts p).known) [
-            | inl k ↦ and_from _ _ k (eq-eqb (host_at K hosts p).mark p (hosts-are.host_unique S (pivot_of pivots) (known_host p lt k) own).0) ∙ sym is
+            | inl k ↦ and_from _ _ k (eq-eqb (host_at K hosts p).mark p (hosts_are.host_unique S (pivot_of pivots) (known_host p lt k) own).0) ∙ sym is
             | inr k ↦ absurd (unknown_host p lt k p K.zero own)
           ])
       | inr is ↦ elim (either_way (host_at K hosts p).known) [
@@ -203,12 +203,12 @@ module _ {C : Type 0} {K : Kind C} {W : Water K} {n : ℕ} (S : Sound W n) (dear
       | inl lt ↦ (let m = made.each v lt in (omega (arith, m.ends), omega (arith, m.fits)))
       | inr past ↦ rw (none_past v past) (omega arith, omega arith)
     ];
-    inside = λ v j lo hi. balls-are.ball_marks S (pivot_of pivots) ((near_at K near j).cost, ball_row v j lo hi) (row_in v j lo hi);
+    inside = λ v j lo hi. balls_are.ball_marks S (pivot_of pivots) ((near_at K near j).cost, ball_row v j lo hi) (row_in v j lo hi);
     only = λ v j lo hi. inside_turned turn (ball_row v j lo hi);
     every = λ v w d B. elim (cases_lt v n) [
       | inl lt ↦ (let m = made.each v lt in
           let B' = inside_turned (sym turn) B in
-          let row = row_of m.rows w (0, K.zero) (m.ball.members.every w (balls-are.ball_marks S (pivot_of pivots) (d, B') lt) (d, B')) in
+          let row = row_of m.rows w (0, K.zero) (m.ball.members.every w (balls_are.ball_marks S (pivot_of pivots) (d, B') lt) (d, B')) in
           let j = (host_at K hosts v).start + row.0 in
           (j, omega arith, omega (arith, row.1, m.ends), ap (λ (z : ℕ × C). z.0) (m.stand.each row.0 j refl row.1 (omega (arith, row.1, m.ends, m.fits))) ∙ row.2))
       | inr past ↦ absurd (omega (arith, beyond B.is_host.dist.way.walk past, B.is_host.inside))

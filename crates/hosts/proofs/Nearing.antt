@@ -7,7 +7,7 @@ use Rattle.measure.specs.Kind.{Kind, Lawful, AtMost}
 use Rattle.measure.proofs.Sums.{some_none, some_injective, zero_at_most, at_most_eq, at_most_below, at_most_trans, at_most_antisym, below_or, at_most_then_below}
 use Rattle.waterway.specs.Ways.{Water, Sound, Dear}
 use Rattle.waterway.specs.Hosts.{Host as Nearest, InBall as Inside}
-use Rattle.waterway.proofs.Hosts as hosts-are
+use Rattle.waterway.proofs.Hosts as hosts_are
 use Rattle.waterway.proofs.Metric as metric
 use Rattle.waterway.specs.declared.Label.{Label}
 use Rattle.bundling.specs.declared.Near.{Near}
@@ -113,13 +113,13 @@ module _ {C : Type 0} {K : Kind C} {W : Water K} {n : ℕ} (S : Sound W n) (pivo
   open S use {lawful as L}
 
   host_upto : {u : ℕ} {c : C} → Nearest W n (pivot_of pivots) v u c → UptoPivots W n pivots v c
-  host_upto H p d lt piv D = hosts-are.host_most S (pivot_of pivots) H lt (holds _ piv) D
+  host_upto H p d lt piv D = hosts_are.host_most S (pivot_of pivots) H lt (holds _ piv) D
 
   -- the pivot with the least label is the host
   pub host_found : (b : Near C) → NearestOf K pivots labels n (Some b) → Nearest W n (pivot_of pivots) v b.mark b.cost
   host_found b h =
       let r = around.sure b.mark b.cost h.2 in
-      let H = hosts-are.host_exists S (pivot_of pivots) v b.mark h.0 (holds _ h.1) r.is in
+      let H = hosts_are.host_exists S (pivot_of pivots) v b.mark h.0 (holds _ h.1) r.is in
       let most : AtMost K H.1 r.dist = host_upto H.2 b.mark r.dist h.0 h.1 r.is in
       let label = around.exact H.0 H.1 H.2.dist (host_upto H.2) in
       elim (h.3 H.0 H.1 H.2.inside (is_true _ H.2.is_pivot) label) [
@@ -146,7 +146,7 @@ module _ {C : Type 0} {K : Kind C} {W : Water K} {n : ℕ} (S : Sound W n) (pivo
 
     pub ball_inner : (w : ℕ) (d : C) → Inside W n (pivot_of pivots) v w d → (label_of K labels w ≡ Some d) × (K.Below d rim)
     ball_inner w d B =
-        let same = (hosts-are.host_unique S (pivot_of pivots) B.is_host H).1 in
+        let same = (hosts_are.host_unique S (pivot_of pivots) B.is_host H).1 in
         let below : K.Below d rim = rw same at B.nearer in
         (around.exact w d B.dist (λ p c lt piv D. at_most_trans L (at_most_below L below) (host_upto H p c lt piv D)), below)
 

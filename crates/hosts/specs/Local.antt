@@ -4,7 +4,7 @@ use Rattle.measure.specs.Kind.{Kind, AtMost}
 use Rattle.std.specs.List.{AllByRecursion}
 use Rattle.waterway.specs.Ways.{Water, Dist}
 use Rattle.waterway.specs.Counts.{Lists}
-use Rattle.waterway.specs.Near.{BallRows, Balls, blank as blank-row}
+use Rattle.waterway.specs.Near.{BallRows, Balls, blank as blank_row}
 use Rattle.waterway.specs.Hosts.{Host as Nearest}
 use Rattle.waterway.specs.declared.Label.{Label}
 use Rattle.bundling.specs.declared.Host.{Host}
@@ -122,4 +122,4 @@ pub record Needed {C : Type 0} {K : Kind C} (W : Water K) (n : ℕ) (pivot : ℕ
 -- the rows from `start` on and before i are blank, and those before `start` as they were
 pub record RowsBlank {C : Type 0} (K : Kind C) (near near' : List (Near C)) (start i : ℕ) : Type 0 where
   pub before : (j : ℕ) → j < start → near_at K near' j ≡ near_at K near j
-  pub blank : (j : ℕ) → start ≤ j → j < i → pair (near_at K near' j) ≡ blank-row K
+  pub blank : (j : ℕ) → start ≤ j → j < i → pair (near_at K near' j) ≡ blank_row K

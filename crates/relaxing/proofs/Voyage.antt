@@ -12,7 +12,7 @@ use Rattle.waterway.specs.Ways.{Water, Dist, Sound, Dear, Tells}
 use Rattle.waterway.specs.Counts.{Counts}
 use Rattle.waterway.specs.Hosts.{Host as Nearest, InBall as Inside}
 use Rattle.waterway.proofs.Cuts.{dist_unique}
-use Rattle.waterway.proofs.Hosts as hosts-are
+use Rattle.waterway.proofs.Hosts as hosts_are
 use Rattle.waterway.proofs.Metric as metric
 use Rattle.waterway.proofs.Distance.{dist, dist_found, dist_is}
 use Rattle.waterway.specs.declared.Label.{Label}
@@ -104,7 +104,7 @@ module _ {C : Type 0} {K : Kind C} {W : Water K} {n : ℕ} (S : Sound W n) (dear
   placed = record {
     inside = λ v u c N. elim (either_option (away_in K hosts v)) [
       | inl e ↦ absurd (housed.none v u c e N)
-      | inr e ↦ (hosts-are.host_unique S (pivot_in K hosts) (housed.some v e.0 e.1) N).0
+      | inr e ↦ (hosts_are.host_unique S (pivot_in K hosts) (housed.some v e.0 e.1) N).0
     ];
     outside = λ p is out. absurd (omega (arith, pivot_in_marks K hosts p (is_true _ is), housed.long));
   }

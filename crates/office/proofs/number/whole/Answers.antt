@@ -2,7 +2,7 @@ use Rattle.std.proofs.Common.{arith, rules}
 use Rattle.std.proofs.lemmas.Int.Digits.{digits_more, digits_value_more}
 use Rattle.std.proofs.lemmas.List.{take_all}
 use Rattle.std.proofs.lemmas.Str.Parse.{digit_at}
-use Rattle.office.proofs.Digits.{digit_value}
+use Rattle.office.proofs.Digits.{digit_worth}
 use Rattle.office.proofs.number.whole.Goals as goal
 
 pub returns-then-not-is_ascii_digit : goal.returns-then-not-is_ascii_digit
@@ -20,7 +20,7 @@ loop-digit-preserved c =
     let inside = c.loop-digit-test.true in
     let digit = c.if-not-is_ascii_digit.ensures in
     let one_more = digits_value_more 10 bytes i inside in
-    let worth = digit_value _ digit.cases in
+    let worth = digit_worth _ digit.cases in
     (digits_more 10 bytes i inside so_far.0 digit.bound, omega arith)
 
 pub returns : goal.returns
