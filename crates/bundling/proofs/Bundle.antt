@@ -53,8 +53,8 @@ module _ {C : Type 0} {K : Kind C} {dist : ℕ → ℕ → Option C} {Edge : ℕ
       -- A leg on the way from y to v that leaves the ball of y: it ends in the ball of v.
       by_rim : Below r (h ⊕ e) → Crossing ways (Inner ways y h) (Outer ways y h) y v → Within K (label' v) (a ⊕ r)
       by_rim l c =
-          let (b, to-z, inside) = c.before in
-          let b_is : b ≡ c.a = same_away ways to-z c.to_x in
+          let (b, to_z, inside) = c.before in
+          let b_is : b ≡ c.a = same_away ways to_z c.to_x in
           let r_is : r ≡ c.a ⊕ c.c ⊕ c.r = same_away ways rest c.whole in
           let far : h ⊕ e ≼ c.a ⊕ c.c ⊕ e =
           plus_mono L h (c.a ⊕ c.c) e (omega arith) (omega arith) (c.after (c.a ⊕ c.c) c.to_y) in

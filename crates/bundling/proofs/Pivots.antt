@@ -40,15 +40,15 @@ module _ {C : Type 0} {K : Kind C} {W : Water K} {n : ℕ} (S : Sound W n) (pivo
     module _ (dear : Dear W) (home : ℕ) (home_pivot : T (pivot home)) where
       near_host : (v p : ℕ) (d : C) → T (pivot p) → Dist W v p d → Hosted K (dist S) pivot host v d
       near_host v p d is D = elim (dec_lt p n) [
-        | yes p-in ↦ (let H = hosts.host_exists S pivot v p p-in is D in
+        | yes p_in ↦ (let H = hosts.host_exists S pivot v p p_in is D in
             let e = placed.inside v H.0 H.1 H.2 in
             record {
               cost = H.1;
               pivotal = rw e (is_true _ H.2.is_pivot);
               is = rw e (dist_is S H.2.dist);
-              upto = hosts.host_most S pivot H.2 p-in is D;
+              upto = hosts.host_most S pivot H.2 p_in is D;
             })
-        | no p-out ↦ (let same : p ≡ v = beyond (metric.dist_turned S D).way.walk (omega arith) in
+        | no p_out ↦ (let same : p ≡ v = beyond (metric.dist_turned S D).way.walk (omega arith) in
             let e : host v ≡ v = rw same at (placed.outside p is (omega arith)) in
             record {
               cost = K.zero;
@@ -60,11 +60,11 @@ module _ {C : Type 0} {K : Kind C} {W : Water K} {n : ℕ} (S : Sound W n) (pivo
 
       own_host : (p : ℕ) → T (pivot p) → host p ≡ p
       own_host p is = elim (dec_lt p n) [
-        | no p-out ↦ placed.outside p is (omega arith)
-        | yes p-in ↦ (let self = metric.dist_self S p in
-            let H = hosts.host_exists S pivot p p p-in is self in
+        | no p_out ↦ placed.outside p is (omega arith)
+        | yes p_in ↦ (let self = metric.dist_self S p in
+            let H = hosts.host_exists S pivot p p p_in is self in
             placed.inside p H.0 H.1 H.2
-            ∙ sym (metric.dear_apart S dear (metric.dist_geo S H.2.dist) (hosts.host_most S pivot H.2 p-in is self)))
+            ∙ sym (metric.dear_apart S dear (metric.dist_geo S H.2.dist) (hosts.host_most S pivot H.2 p_in is self)))
       ]
 
       pub bundles : Hosts K (dist S) (Edge W) pivot host home

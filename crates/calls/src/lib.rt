@@ -31,6 +31,7 @@ pub fn run<M: Measure + Drop>(
     Ok(answers)
 }
 
+// Performs one call on a chart.
 pub fn perform<M: Measure>(chart: &mut Chart<M>, call: Call) -> Result<Answer, Refusal>
     ensures { Brings (checks (state chart.old) call) (given (state chart.old) call) (state chart.old) (next (state chart.old) call) result (state chart.new) }
 {

@@ -49,18 +49,18 @@ EntersLeg s a b tenths locks = Brings (entering s a b tenths locks) (length s.le
 -- Closing and reopening the leg k: it must not be so already
 
 abbrev pub turning : State → ℕ → Bool → List (Check Refusal)
-turning s k to-open = ((length s.legs ≤ k) refuses_by NoSuchLeg) ∷ (((leg_at s.legs k).«open» ≡ to-open) refuses_by StandsAlready) ∷ []
+turning s k to_open = ((length s.legs ≤ k) refuses_by NoSuchLeg) ∷ (((leg_at s.legs k).«open» ≡ to_open) refuses_by StandsAlready) ∷ []
 
 abbrev pub with_leg_turned : State → ℕ → Bool → State
-with_leg_turned s k to-open = let leg = leg_at s.legs k in record {
-  legs = slice_set s.legs k (record { from = leg.from; to = leg.to; length = leg.length; locks = leg.locks; «open» = to-open });
+with_leg_turned s k to_open = let leg = leg_at s.legs k in record {
+  legs = slice_set s.legs k (record { from = leg.from; to = leg.to; length = leg.length; locks = leg.locks; «open» = to_open });
   pivots = s.pivots;
   home = s.home;
   worked = false;
 }
 
 abbrev pub TurnsLeg : State → ℕ → Bool → Result (Unit {0}) Refusal → State → Type 0
-TurnsLeg s k to-open = Brings (turning s k to-open) tt s (with_leg_turned s k to-open)
+TurnsLeg s k to_open = Brings (turning s k to_open) tt s (with_leg_turned s k to_open)
 
 -- Naming a mark that is home from then on, or is a pivot or none from then on
 

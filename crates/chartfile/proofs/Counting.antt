@@ -24,7 +24,7 @@ module _ (pivots : List Bool) (i : ℕ) (inside : i < length pivots) where
   marked_more = ap (marked_from 0) (take_more pivots i false inside) ∙ marked_append 0 (take i pivots) (get_or pivots i false ∷ []) i (omega (arith, length-take-le i pivots (omega arith)))
 
   pub marked_yes : get_or pivots i false ≡ true → marked_from 0 (take (i + 1) pivots) ≡ marked_from 0 (take i pivots) ++ i ∷ []
-  marked_yes is-marked = rw is-marked at marked_more
+  marked_yes is_marked = rw is_marked at marked_more
 
   pub marked_no : get_or pivots i false ≡ false → marked_from 0 (take (i + 1) pivots) ≡ marked_from 0 (take i pivots)
   marked_no unmarked = rw (unmarked, append-nil) at marked_more

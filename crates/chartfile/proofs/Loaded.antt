@@ -20,8 +20,8 @@ module _ (n : ℕ) (latest : Option Frame) (s : State) where
   bad_digits (b ∷ text) some none = no_digits none
 
   pub bad_order : (bytes : List ℕ) (frame : Frame) → sum bytes % 256 ≡ 0 → bytes ≡ checked (body frame) → (Follows n latest frame → ⊥) → BadBytes n latest s bytes BadFrame
-  bad_order bytes frame adds is not-next =
-      no_frame adds (λ other also next. not-next (subst (Follows n latest) (one_frame bytes other frame also is) next))
+  bad_order bytes frame adds is not_next =
+      no_frame adds (λ other also next. not_next (subst (Follows n latest) (one_frame bytes other frame also is) next))
 
 -- One frame more
 

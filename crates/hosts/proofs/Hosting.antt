@@ -37,10 +37,10 @@ module _ {C : Type 0} {K : Kind C} {W : Water K} {n : ℕ} {pivots : List Bool} 
     balls = rw add-one (then done.balls now.ball);
     many = omega (arith, done.many, now.ends, length-append done.rows now.rows);
     stand = record {
-      each = λ j k e in-it room. elim (dec_lt j at) [
+      each = λ j k e in_it room. elim (dec_lt j at) [
         | yes less ↦ ap pair (now.before k (omega arith)) ∙ (done.stand.each j k e (omega (arith, done.many)) (omega (arith, room, long))
             ∙ sym (get_or_append_left done.rows now.rows (0, K.zero) j (omega (arith, done.many))))
-        | no past ↦ now.stand.each (j - at) k (omega (arith, e)) (omega (arith, in-it, done.many, length-append done.rows now.rows)) room
+        | no past ↦ now.stand.each (j - at) k (omega (arith, e)) (omega (arith, in_it, done.many, length-append done.rows now.rows)) room
             ∙ sym (get_or-append_right done.rows now.rows at j (0, K.zero) done.many (omega arith))
       ];
     };
@@ -53,7 +53,7 @@ module _ {C : Type 0} {K : Kind C} {W : Water K} {n : ℕ} {pivots : List Bool} 
         ball = now.ball;
         ends = omega (arith, now.ends, now.starts);
         fits = omega arith;
-        stand = record { each = λ j k e in-it room. now.stand.each j k (omega (arith, e, now.starts)) in-it room };
+        stand = record { each = λ j k e in_it room. now.stand.each j k (omega (arith, e, now.starts)) in_it room };
       }
 
       old : (x : ℕ) (h : Host C) → HostRow W n pivots near x at h → HostRow W n pivots near' x r.end h
@@ -63,7 +63,7 @@ module _ {C : Type 0} {K : Kind C} {W : Water K} {n : ℕ} {pivots : List Bool} 
         ball = d.ball;
         ends = d.ends;
         fits = omega (arith, d.fits, now.ends);
-        stand = record { each = λ j k e in-it room. ap pair (now.before k (omega (arith, d.ends, d.fits, e, in-it))) ∙ d.stand.each j k e in-it (omega (arith, room, long)) };
+        stand = record { each = λ j k e in_it room. ap pair (now.before k (omega (arith, d.ends, d.fits, e, in_it))) ∙ d.stand.each j k e in_it (omega (arith, room, long)) };
       }
 
   pub hosts_none : HostsMade W n pivots hosts near 0 0
@@ -80,12 +80,12 @@ module _ {C : Type 0} {K : Kind C} {W : Water K} {n : ℕ} {pivots : List Bool} 
       ball = d.ball;
       ends = d.ends;
       fits = d.fits;
-      stand = record { each = λ j k e in-it room. ap pair (same k (omega (arith, d.ends, d.fits, e, in-it))) ∙ d.stand.each j k e in-it (omega (arith, room, long)) };
+      stand = record { each = λ j k e in_it room. ap pair (same k (omega (arith, d.ends, d.fits, e, in_it))) ∙ d.stand.each j k e in_it (omega (arith, room, long)) };
     };
     rows = done.rows;
     balls = done.balls;
     many = done.many;
-    stand = record { each = λ j k e in-it room. ap pair (same k (omega (arith, done.many, e, in-it))) ∙ done.stand.each j k e in-it (omega (arith, room, long)) };
+    stand = record { each = λ j k e in_it room. ap pair (same k (omega (arith, done.many, e, in_it))) ∙ done.stand.each j k e in_it (omega (arith, room, long)) };
   }
 
   -- the balls, and then blanks

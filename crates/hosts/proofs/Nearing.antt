@@ -98,13 +98,13 @@ module _ {C : Type 0} {K : Kind C} (labels : List (Label C)) (near a b : List (N
 
 module _ {C : Type 0} (K : Kind C) (labels : List (Label C)) (near : List (Near C)) (at w : ℕ) (d rim : C) where
   pub row_put : at < length near → label_of K labels w ≡ Some d → K.Below d rim → RowWritten K labels near (set near at (row w d)) at w rim (at + 1)
-  row_put lt is below = inr (d, refl, is, below, λ j ne. get_or-set_other near at j (row w d) (record { mark = 0; cost = K.zero }) ne, λ in-it. get_or-set_same near at (row w d) (record { mark = 0; cost = K.zero }) lt)
+  row_put lt is below = inr (d, refl, is, below, λ j ne. get_or-set_other near at j (row w d) (record { mark = 0; cost = K.zero }) ne, λ in_it. get_or-set_same near at (row w d) (record { mark = 0; cost = K.zero }) lt)
 
   pub row_none : ((d' : C) → label_of K labels w ≡ Some d' → K.Below d' rim → ⊥) → RowWritten K labels near near at w rim at
   row_none none = inl (refl, (λ j. refl, none))
 
   pub row_past : length near ≤ at → label_of K labels w ≡ Some d → K.Below d rim → RowWritten K labels near near at w rim (at + 1)
-  row_past past is below = inr (d, refl, is, below, λ j ne. refl, λ in-it. absurd (omega arith))
+  row_past past is below = inr (d, refl, is, below, λ j ne. refl, λ in_it. absurd (omega arith))
 
 pub nearest_same : {C : Type 0} {K : Kind C} {W : Water K} {n : ℕ} {pivot : ℕ → Bool} {v u u' : ℕ} {c c' : C} → Nearest W n pivot v u c → u ≡ u' → c ≡ c' → Nearest W n pivot v u' c'
 nearest_same N e f = rw f at (rw e at N)

@@ -135,7 +135,7 @@ module _ {C : Type 0} {K : Kind C} {selves : List (Host C)} {n : ℕ} (own : Sel
           exact = λ w d D upto.
               let w_in = bills.walk_ends S D.way.walk v_in in
               elim (either_way (drawn_of (pivot_in K selves) (label_of K a) h.key w)) [
-                | inl yes-drawn ↦ ready.exact w (rw (self_host w w_in) yes-drawn) ∙ dist_is S D
+                | inl yes_drawn ↦ ready.exact w (rw (self_host w w_in) yes_drawn) ∙ dist_is S D
                 | inr un ↦ (let far = key_upto (H S dear selves_housed v (self_pivot v v_in)) ready (held S dear selves_housed v (self_pivot v v_in) matched ready least)
                     (lowest S dear selves_housed v (self_pivot v v_in) matched ready least) (self_pivot w w_in) un (away (H S dear selves_housed v (self_pivot v v_in)).ways (dist_is S D)) in
                     absurd (at_most_trans L far (upto f.0 b f.1 f.2 f.3) past))

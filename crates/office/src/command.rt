@@ -10,12 +10,9 @@ pub enum Unit {
 }
 
 #[derive(Clone, Copy)]
-pub enum Command<'t> {
+pub enum Command {
     Measure(Unit),
     Call(Call),
-    // A path.
-    Load(&'t str),
-    Save(&'t str),
 }
 
 // What is wrong with a line that is no command.
@@ -28,14 +25,14 @@ pub enum Slip {
 }
 
 // The command that the words of a line say.
-pub fn parse<'t>(words: &[&'t str]) -> Result<Command<'t>, Slip> {
+pub fn parse(words: &[&str]) -> Result<Command, Slip> {
     let Some(command) = command_of(words) else {
         return Err(slip_of(words));
     };
     Ok(command)
 }
 
-fn command_of<'t>(words: &[&'t str]) -> Option<Command<'t>> {
+fn command_of(words: &[&str]) -> Option<Command> {
     Some(match words {
         ["measure", "length"] => Command::Measure(Unit::Length),
         ["measure", "locks"] => Command::Measure(Unit::Locks),
@@ -46,8 +43,6 @@ fn command_of<'t>(words: &[&'t str]) -> Option<Command<'t>> {
         ["home", mark] => Command::Call(Call::SetHome(number_of(mark)?)),
         ["pivot", mark, "yes"] => Command::Call(Call::SetPivot(number_of(mark)?, true)),
         ["pivot", mark, "no"] => Command::Call(Call::SetPivot(number_of(mark)?, false)),
-        ["load", path] => Command::Load(path),
-        ["save", path] => Command::Save(path),
         _ => return None,
     })
 }
@@ -75,8 +70,6 @@ fn slip_of(words: &[&str]) -> Slip {
         ["open", ..] => Slip::Form("open N"),
         ["home", ..] => Slip::Form("home N"),
         ["pivot", ..] => Slip::Form("pivot N yes|no"),
-        ["load", ..] => Slip::Form("load PATH"),
-        ["save", ..] => Slip::Form("save PATH"),
         _ => Slip::NoCommand,
     }
 }

@@ -3,7 +3,6 @@
 
 use std::io::{Read, Write};
 
-mod answer;
 mod command;
 mod number;
 mod reply;
@@ -18,7 +17,7 @@ fn main(rt: HostRuntime) -> anyhow::Result<()> {
 fn serve(rt: &HostRuntime) -> anyhow::Result<()> {
     let mut input = Vec::new(rt.alloc());
     rt.stdin().read_to_end(&mut input)?;
-    let answers = answer::answered(rt, input.as_slice())?;
+    let answers = script::answered(rt.alloc(), input.as_slice())?;
     rt.stdout().write_all(answers.as_bytes())?;
     Ok(())
 }

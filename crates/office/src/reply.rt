@@ -2,8 +2,6 @@
 use crate::command::{Slip, Unit};
 use calls::Answer;
 use chart::Refusal;
-use chartfile::{Cause, Fault};
-use filing::{Done, Refused};
 use std::alloc::AllocError;
 use std::fmt::Write;
 
@@ -14,63 +12,21 @@ pub fn reply_measure(out: &mut String, unit: Unit) -> Result<(), AllocError> {
     }
 }
 
-pub fn reply_errand(out: &mut String, answer: Result<Done, Refused>) -> Result<(), AllocError> {
+pub fn reply_call(out: &mut String, answer: Result<Answer, Refusal>) -> Result<(), AllocError> {
     match answer {
-        Ok(Done::Called(answer)) => reply_call(out, answer),
-        Ok(Done::Loaded { marks, legs }) => writeln!(out, "loaded {marks} marks {legs} legs"),
-        Ok(Done::Written(bytes)) => writeln!(out, "saved {bytes} bytes"),
-        Err(Refused::Chart(refusal)) => reply_refusal(out, refusal),
-        Err(Refused::File(fault)) => reply_fault(out, fault),
-        Err(Refused::Buffer(short)) => {
-            let number = short.number();
-            writeln!(
-                out,
-                "refused {number:02} the buffer is shorter than the file"
-            )
+        Ok(Answer::Mark(mark)) => writeln!(out, "mark {mark}"),
+        Ok(Answer::Leg(leg)) => writeln!(out, "leg {leg}"),
+        Ok(Answer::Closed(leg)) => writeln!(out, "closed {leg}"),
+        Ok(Answer::Reopened(leg)) => writeln!(out, "opened {leg}"),
+        Ok(Answer::Home(mark)) => writeln!(out, "home {mark}"),
+        Ok(Answer::Pivot(mark, true)) => writeln!(out, "pivot {mark} yes"),
+        Ok(Answer::Pivot(mark, false)) => writeln!(out, "pivot {mark} no"),
+        Err(refusal) => {
+            let number = refusal.number();
+            let reason = reason(refusal);
+            writeln!(out, "refused {number:02} {reason}")
         }
     }
-}
-
-fn reply_call(out: &mut String, answer: Answer) -> Result<(), AllocError> {
-    match answer {
-        Answer::Mark(mark) => writeln!(out, "mark {mark}"),
-        Answer::Leg(leg) => writeln!(out, "leg {leg}"),
-        Answer::Closed(leg) => writeln!(out, "closed {leg}"),
-        Answer::Reopened(leg) => writeln!(out, "opened {leg}"),
-        Answer::Home(mark) => writeln!(out, "home {mark}"),
-        Answer::Pivot(mark, true) => writeln!(out, "pivot {mark} yes"),
-        Answer::Pivot(mark, false) => writeln!(out, "pivot {mark} no"),
-    }
-}
-
-fn reply_refusal(out: &mut String, refusal: Refusal) -> Result<(), AllocError> {
-    let number = refusal.number();
-    let reason = reason(refusal);
-    writeln!(out, "refused {number:02} {reason}")
-}
-
-fn reply_fault(out: &mut String, fault: Fault) -> Result<(), AllocError> {
-    let number = fault.cause.number();
-    let line = fault.line;
-    write!(out, "refused {number:02} line {line} ")?;
-    match fault.cause {
-        Cause::HasMarks => writeln!(out, "the chart has marks already"),
-        Cause::BadDigits => writeln!(
-            out,
-            "a line is 2 to 64 digits 0 to 9 and A to F, two a byte"
-        ),
-        Cause::BadSum => writeln!(out, "the bytes do not add up"),
-        Cause::BadFrame => writeln!(out, "this frame cannot stand here, or the last is missing"),
-        Cause::BadEntry(refusal) => reply_refusal(out, refusal),
-    }
-}
-
-pub fn reply_unread(out: &mut String, line: usize, path: &str) -> Result<(), AllocError> {
-    writeln!(out, "? line {line} cannot read {path}")
-}
-
-pub fn reply_unwritten(out: &mut String, line: usize, path: &str) -> Result<(), AllocError> {
-    writeln!(out, "? line {line} cannot write {path}")
 }
 
 pub fn reply_slip(out: &mut String, line: usize, slip: Slip) -> Result<(), AllocError> {

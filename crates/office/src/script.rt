@@ -1,60 +1,77 @@
-// A script: its errands in order, and what is to be answered line by line.
+// A whole script: read line by line, performed as one list of calls, and answered line by line.
 use crate::command::{Command, Slip, Unit, parse};
-use filing::Errand;
-use std::alloc::AllocError;
-use std::fs;
-
-// The longest chart file: 1,024 legs, 256 marks that are all pivots, and home.
-const LONGEST_FILE: usize = 20 + 19 * 1024 + 9 * 256 + 9;
+use crate::reply::{reply_call, reply_measure, reply_slip};
+use calls::{Answer, Call, run};
+use chart::Refusal;
+use measure::by_length::Length;
+use measure::by_locks::LocksFirst;
+use std::alloc::{AllocError, Global};
+use std::fmt;
 
 #[derive(Drop)]
-pub struct Script<'t> {
+struct Script {
     // Settled by the first command.
-    pub unit: Option<Unit>,
-    pub errands: Vec<Errand>,
-    pub lines: Vec<Line<'t>>,
+    unit: Option<Unit>,
+    calls: Vec<Call>,
+    lines: Vec<Line>,
 }
 
-// A line that has an answer. An errand goes by its place among the errands.
+// A line that has an answer. A call goes by its place among the calls.
 #[derive(Clone, Copy)]
-pub enum Line<'t> {
+enum Line {
     Measure(Unit),
-    Errand(usize),
-    Save {
-        errand: usize,
-        line: usize,
-        path: &'t str,
-    },
-    Unread {
-        line: usize,
-        path: &'t str,
-    },
+    Call(usize),
     Slip(usize, Slip),
 }
 
-// Reads a script, and the files that it loads.
-pub fn read<'t>(rt: &HostRuntime, text: &'t str) -> Result<Script<'t>, AllocError> {
-    let heap = rt.alloc();
+// What the office writes for a script.
+pub fn answered(heap: Global, input: &[u8]) -> anyhow::Result<String> {
+    let text = String::from_utf8_lossy(heap, input)?;
+    let script = read(heap, text.as_str())?;
+    let answers = perform(heap, &script)?;
+    let mut out = String::new(heap);
+    for line in script.lines.iter() {
+        reply(&mut out, *line, answers.as_slice())?;
+    }
+    Ok(out)
+}
+
+fn reply(out: &mut String, line: Line, answers: &[Result<Answer, Refusal>]) -> fmt::Result {
+    match line {
+        Line::Measure(unit) => reply_measure(out, unit)?,
+        Line::Slip(number, slip) => reply_slip(out, number, slip)?,
+        Line::Call(at) => match answers.get(at) {
+            Some(answer) => reply_call(out, *answer)?,
+            None => return Err(fmt::Error),
+        },
+    }
+    Ok(())
+}
+
+fn perform(heap: Global, script: &Script) -> Result<Vec<Result<Answer, Refusal>>, AllocError> {
+    let calls = script.calls.as_slice();
+    match script.unit {
+        Some(Unit::Locks) => run(heap, LocksFirst, calls),
+        _ => run(heap, Length, calls),
+    }
+}
+
+fn read(heap: Global, text: &str) -> Result<Script, AllocError> {
     let mut script = Script {
         unit: None,
-        errands: Vec::new(heap),
+        calls: Vec::new(heap),
         lines: Vec::new(heap),
     };
     for (index, line) in text.lines().enumerate() {
         let words: Vec<&str> = line.split_whitespace().collect(heap)?;
-        script.take(rt, index.saturating_add(1), words.as_slice())?;
+        script.take(index.saturating_add(1), words.as_slice())?;
     }
     Ok(script)
 }
 
-impl<'t> Script<'t> {
+impl Script {
     // Takes one more line, by its number and its words.
-    fn take(
-        &mut self,
-        rt: &HostRuntime,
-        number: usize,
-        words: &[&'t str],
-    ) -> Result<(), AllocError> {
+    fn take(&mut self, number: usize, words: &[&str]) -> Result<(), AllocError> {
         let [first, ..] = words else {
             return Ok(());
         };
@@ -62,44 +79,26 @@ impl<'t> Script<'t> {
             return Ok(());
         }
         let line = match parse(words) {
-            Ok(command) => self.obey(rt, number, command)?,
+            Ok(command) => self.obey(number, command)?,
             Err(slip) => Line::Slip(number, slip),
         };
         self.lines.push(line)?;
         Ok(())
     }
 
-    fn obey(
-        &mut self,
-        rt: &HostRuntime,
-        line: usize,
-        command: Command<'t>,
-    ) -> Result<Line<'t>, AllocError> {
-        let errand = match (command, self.unit) {
+    fn obey(&mut self, number: usize, command: Command) -> Result<Line, AllocError> {
+        match (command, self.unit) {
             (Command::Measure(unit), None) => {
                 self.unit = Some(unit);
-                return Ok(Line::Measure(unit));
+                Ok(Line::Measure(unit))
             }
-            (Command::Measure(_), Some(_)) => return Ok(Line::Slip(line, Slip::MeasureNotFirst)),
-            (Command::Call(call), _) => Errand::Call(call),
-            (Command::Load(path), _) => match fs::read(rt, path) {
-                Ok(text) => Errand::Load(text),
-                Err(_) => return Ok(Line::Unread { line, path }),
-            },
-            (Command::Save(path), _) => {
-                let buffer = vec![in rt.alloc(); 0u8; LONGEST_FILE]?;
-                let errand = self.add(Errand::Write(buffer))?;
-                return Ok(Line::Save { errand, line, path });
+            (Command::Measure(_), Some(_)) => Ok(Line::Slip(number, Slip::MeasureNotFirst)),
+            (Command::Call(call), unit) => {
+                self.unit = Some(unit.unwrap_or(Unit::Length));
+                let at = self.calls.len();
+                self.calls.push(call)?;
+                Ok(Line::Call(at))
             }
-        };
-        Ok(Line::Errand(self.add(errand)?))
-    }
-
-    // Adds an errand, and gives its place.
-    fn add(&mut self, errand: Errand) -> Result<usize, AllocError> {
-        self.unit = Some(self.unit.unwrap_or(Unit::Length));
-        let at = self.errands.len();
-        self.errands.push(errand)?;
-        Ok(at)
+        }
     }
 }

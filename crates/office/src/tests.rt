@@ -1,4 +1,5 @@
-use crate::answer::answered;
+use crate::script::answered;
+use std::alloc::Global;
 use std::fmt::Write;
 use std::process::Abort;
 use std::test::Fail;
@@ -18,18 +19,18 @@ const NO_LEG: &str = "refused 07 no such leg on the chart";
 const STANDS: &str = "refused 08 the leg is closed, or open, already";
 
 // The last line that the office writes for a script.
-fn last(host: &HostRuntime, script: &[u8]) -> Result<String, Fail> {
-    let out = answered(host, script)?;
-    Ok(String::from_str(host.alloc(), out.as_str().lines().last().unwrap_or(""))?)
+fn last(heap: Global, script: &[u8]) -> Result<String, Fail> {
+    let out = answered(heap, script)?;
+    Ok(String::from_str(heap, out.as_str().lines().last().unwrap_or(""))?)
 }
 
 // Each line comes after three marks, and is answered so.
-fn check_answers(rt: &impl Abort, host: &HostRuntime, table: &[(&str, &str)]) -> Result<(), Fail> {
+fn check_answers(rt: &impl Abort, heap: Global, table: &[(&str, &str)]) -> Result<(), Fail> {
     for (line, answer) in table {
-        let mut script = String::from_str(host.alloc(), "mark\nmark\nmark\n")?;
+        let mut script = String::from_str(heap, "mark\nmark\nmark\n")?;
         script.push_str(line)?;
         assert_eq!(rt;
-            last(host, script.as_bytes())?.as_str(),
+            last(heap, script.as_bytes())?.as_str(),
             *answer,
             "{}",
             *line
@@ -50,7 +51,7 @@ fn limits_of_a_leg(rt: HostRuntime) -> Result<(), Fail> {
         ("leg 0 1 4294967296 0", OUT_OF_LIMITS),
         ("leg 0 1 1 4294967296", OUT_OF_LIMITS),
     ];
-    check_answers(&rt, &rt, &table)
+    check_answers(&rt, rt.alloc(), &table)
 }
 
 #[test]
@@ -70,7 +71,7 @@ fn refusals_and_their_order(rt: HostRuntime) -> Result<(), Fail> {
         ("leg 0 1 1 0\nclose 0\nclose 0", STANDS),
         ("leg 0 1 1 0\nopen 0", STANDS),
     ];
-    check_answers(&rt, &rt, &table)
+    check_answers(&rt, rt.alloc(), &table)
 }
 
 #[test]
@@ -84,7 +85,7 @@ fn accepted_calls(rt: HostRuntime) -> Result<(), Fail> {
         ("pivot 2 no", "pivot 2 no"),
         ("mark", "mark 3"),
     ];
-    check_answers(&rt, &rt, &table)
+    check_answers(&rt, rt.alloc(), &table)
 }
 
 #[test]
@@ -113,7 +114,7 @@ fn lines_that_are_no_commands(rt: HostRuntime) -> Result<(), Fail> {
             "? line 4 measure must be the first command",
         ),
     ];
-    check_answers(&rt, &rt, &table)
+    check_answers(&rt, rt.alloc(), &table)
 }
 
 #[test]
@@ -123,10 +124,10 @@ fn full_charts(rt: HostRuntime) -> Result<(), Fail> {
     for _ in 0..256 {
         script.push_str("mark\n")?;
     }
-    assert_eq!(rt; last(&rt, script.as_bytes())?.as_str(), "mark 255");
+    assert_eq!(rt; last(heap, script.as_bytes())?.as_str(), "mark 255");
     script.push_str("mark\n")?;
     assert_eq!(rt;
-        last(&rt, script.as_bytes())?.as_str(),
+        last(heap, script.as_bytes())?.as_str(),
         "refused 01 the chart has 256 marks already"
     );
     for b in 8..136 {
@@ -134,26 +135,27 @@ fn full_charts(rt: HostRuntime) -> Result<(), Fail> {
             writeln!(script, "leg {a} {b} 1 0")?;
         }
     }
-    assert_eq!(rt; last(&rt, script.as_bytes())?.as_str(), "leg 1023");
+    assert_eq!(rt; last(heap, script.as_bytes())?.as_str(), "leg 1023");
     script.push_str("leg 0 8 1 0\n")?;
-    assert_eq!(rt; last(&rt, script.as_bytes())?.as_str(), LEGS_FULL);
+    assert_eq!(rt; last(heap, script.as_bytes())?.as_str(), LEGS_FULL);
     Ok(())
 }
 
 #[test]
 fn odd_input(rt: HostRuntime) -> Result<(), Fail> {
-    assert_eq!(rt; answered(&rt, b"")?.as_str(), "");
-    assert_eq!(rt; answered(&rt, b"\n  \n# mark\n #mark\n")?.as_str(), "");
+    let heap = rt.alloc();
+    assert_eq!(rt; answered(heap, b"")?.as_str(), "");
+    assert_eq!(rt; answered(heap, b"\n  \n# mark\n #mark\n")?.as_str(), "");
     assert_eq!(rt;
-        answered(&rt, b"\xff\xfe\x00mark\nmark")?.as_str(),
+        answered(heap, b"\xff\xfe\x00mark\nmark")?.as_str(),
         "? line 1 no such command\nmark 0\n"
     );
     assert_eq!(rt;
-        answered(&rt, b"measure locks\r\nmark\r\n")?.as_str(),
+        answered(heap, b"measure locks\r\nmark\r\n")?.as_str(),
         "measure locks\nmark 0\n"
     );
     assert_eq!(rt;
-        answered(&rt, b"x\nmeasure length\nmark")?.as_str(),
+        answered(heap, b"x\nmeasure length\nmark")?.as_str(),
         "? line 1 no such command\nmeasure length\nmark 0\n"
     );
     Ok(())
@@ -169,30 +171,13 @@ fn much_input(rt: HostRuntime) -> Result<(), Fail> {
         line.push_str("mark mark ")?;
     }
     assert_eq!(rt;
-        answered(&rt, lines.as_bytes())?.as_str().lines().count(),
+        answered(heap, lines.as_bytes())?.as_str().lines().count(),
         10_000
     );
     assert_eq!(rt; line.len(), 100_000);
     assert_eq!(rt;
-        answered(&rt, line.as_bytes())?.as_str(),
+        answered(heap, line.as_bytes())?.as_str(),
         "? line 1 write it as: mark\n"
     );
     Ok(())
-}
-
-#[test]
-fn paths_that_lead_nowhere(rt: HostRuntime) -> Result<(), Fail> {
-    let table = [
-        (
-            "load no-such-folder/chart",
-            "? line 4 cannot read no-such-folder/chart",
-        ),
-        (
-            "save no-such-folder/chart",
-            "? line 4 cannot write no-such-folder/chart",
-        ),
-        ("load", "? line 4 write it as: load PATH"),
-        ("save a b", "? line 4 write it as: save PATH"),
-    ];
-    check_answers(&rt, &rt, &table)
 }

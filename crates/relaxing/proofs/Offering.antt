@@ -70,7 +70,7 @@ module _ {C : Type 0} {K : Kind C} (L : Lawful K) {label label' : ℕ → Option
 
     offered_wrote : Wrote label label' y r → ((l : C) → label y ≡ Some l → AtMost K r l) → ((v : ℕ) → (v ≡ y → ⊥) → key' v ≡ key v)
         → ((k : C) → key' y ≡ Some k → r ≡ k) → out label' key' y ≡ out label key y → Offered K label label' key key' y r
-    offered_wrote w less keys at_y out-y = record {
+    offered_wrote w less keys at_y out_y = record {
       lower = wrote_lower w less;
       within = wrote_within w;
       change = wrote_change w;
@@ -79,15 +79,15 @@ module _ {C : Type 0} {K : Kind C} (L : Lawful K) {label label' : ℕ → Option
         | no f ↦ w.others p f ∙ agrees p k (sym (keys p f) ∙ e)
       ];
       keys = keys;
-      same_out = λ v. elim (ℕ_discrete v y) [ yes f ↦ rw f out-y | no f ↦ rw (w.others v f, keys v f) ];
+      same_out = λ v. elim (ℕ_discrete v y) [ yes f ↦ rw f out_y | no f ↦ rw (w.others v f, keys v f) ];
     }
 
   module _ (h h' : Held C) (agrees : Agrees label h.key) (w : Wrote label label' y r) (inside : y < h.span) where
     set_offered : Alike h' (with_key h y (Some r)) → ((l : C) → label y ≡ Some l → AtMost K r l) → out label h.key y ≡ false
         → Offered K label label' h.key h'.key y r
-    set_offered same less out-y =
+    set_offered same less out_y =
         let now = same.key y ∙ key_set h y y (Some r) refl in
-        offered_wrote agrees w less (λ v ne. same.key v ∙ key_kept h y v (Some r) ne) (λ k e. some_injective now e) (keyed_in (label' y) (h'.key y) now ∙ sym out-y)
+        offered_wrote agrees w less (λ v ne. same.key v ∙ key_kept h y v (Some r) ne) (λ k e. some_injective now e) (keyed_in (label' y) (h'.key y) now ∙ sym out_y)
 
     pub put_offered : (a : Result Unit Refusal) → PutAnswer h y a → Alike h' (after_setting h y r a) → label y ≡ None → Offered K label label' h.key h'.key y r
     put_offered a p same none =

@@ -23,10 +23,10 @@ module _ {C : Type 0} {K : Kind C} {W : Water K} {n : ℕ} (S : Sound W n) (pivo
     inside = omega arith;
     is_pivot = H.is_pivot;
     dist = H.dist;
-    nearest = λ p d p-in p-is E. elim (ℕ_discrete p m) [
-      | yes e ↦ (let at_least_lem = far d (rw e at p-is) (rw e at E) in
+    nearest = λ p d p_in p_is E. elim (ℕ_discrete p m) [
+      | yes e ↦ (let at_least_lem = far d (rw e at p_is) (rw e at E) in
           elim (L.total c d) [ inl l ↦ inl l | inr r ↦ elim r [ inl same ↦ inr (same, omega arith) | inr l ↦ absurd (at_least_lem l) ] ])
-      | no e ↦ H.nearest p d (omega arith) p-is E
+      | no e ↦ H.nearest p d (omega arith) p_is E
     ];
   }
 
@@ -36,25 +36,25 @@ module _ {C : Type 0} {K : Kind C} {W : Water K} {n : ℕ} (S : Sound W n) (pivo
     inside = omega arith;
     is_pivot = is;
     dist = D;
-    nearest = λ p e p-in p-is E. elim (ℕ_discrete p m) [
+    nearest = λ p e p_in p_is E. elim (ℕ_discrete p m) [
       | yes q ↦ inr (dist_unique S D (rw q at E), omega arith)
-      | no q ↦ inl (far p e (omega arith) p-is E)
+      | no q ↦ inl (far p e (omega arith) p_is E)
     ];
   }
 
   -- the first m marks looked at in turn
   look : (m v : ℕ) → Found m v
-  look zero v = inl (λ p p-in. absurd (omega arith))
+  look zero v = inl (λ p p_in. absurd (omega arith))
   look (suc m) v = at (pivot m) refl (look m v)
     where
       skip : (T (pivot m) → Apart W v m) → Found m v → Found (suc m) v
-      skip far (inl h) = inl (λ p p-in p-is. elim (ℕ_discrete p m) [ yes e ↦ rw e (far (rw e at p-is)) | no e ↦ h p (omega arith) p-is ])
+      skip far (inl h) = inl (λ p p_in p_is. elim (ℕ_discrete p m) [ yes e ↦ rw e (far (rw e at p_is)) | no e ↦ h p (omega arith) p_is ])
       skip far (inr (u, c, H)) = inr (u, c, host_keeps H (λ d is D. absurd (far is D.ks D.ms D.way)))
 
       meet : T (pivot m) → (d : C) → Dist W v m d → Found m v → Found (suc m) v
-      meet is d D (inl h) = inr (m, d, host_new is D (λ p e p-in p-is E. absurd (h p p-in p-is E.ks E.ms E.way)))
+      meet is d D (inl h) = inr (m, d, host_new is D (λ p e p_in p_is E. absurd (h p p_in p_is E.ks E.ms E.way)))
       meet is d D (inr (u, c, H)) = elim (sums.below_or L d c) [
-        | inl l ↦ inr (m, d, host_new is D (λ p e p-in p-is E. elim (H.nearest p e p-in p-is E) [ inl b ↦ L.trans d c e l b | inr s ↦ rw s.0 at l ]))
+        | inl l ↦ inr (m, d, host_new is D (λ p e p_in p_is E. elim (H.nearest p e p_in p_is E) [ inl b ↦ L.trans d c e l b | inr s ↦ rw s.0 at l ]))
         | inr l ↦ inr (u, c, host_keeps H (λ e is E. rw (dist_unique S D E) at l))
       ]
 
@@ -66,7 +66,7 @@ module _ {C : Type 0} {K : Kind C} {W : Water K} {n : ℕ} (S : Sound W n) (pivo
   host_or_none v = look n v
 
   pub host_exists : (v p : ℕ) {d : C} → p < n → T (pivot p) → Dist W v p d → (u : ℕ) × (c : C) × Host W n pivot v u c
-  host_exists v p p-in p-is D = elim (host_or_none v) [ inl h ↦ absurd (h p p-in p-is D.ks D.ms D.way) | inr H ↦ H ]
+  host_exists v p p_in p_is D = elim (host_or_none v) [ inl h ↦ absurd (h p p_in p_is D.ks D.ms D.way) | inr H ↦ H ]
 
   -- the host is no farther than any pivot
   pub host_most : {v u p : ℕ} {c d : C} → Host W n pivot v u c → p < n → T (pivot p) → Dist W v p d → AtMost K c d
@@ -85,7 +85,7 @@ module _ {C : Type 0} {K : Kind C} {W : Water K} {n : ℕ} (S : Sound W n) (pivo
 
   -- where each leg costs something, a pivot is its own host
   pub host_own : Dear W → {v : ℕ} → v < n → T (pivot v) → Host W n pivot v v K.zero
-  host_own dear {v} lt is = record { inside = lt; is_pivot = is; dist = metric.dist_self S v; nearest = λ p d p-in p-is D. go p d D (L.total K.zero d) }
+  host_own dear {v} lt is = record { inside = lt; is_pivot = is; dist = metric.dist_self S v; nearest = λ p d p_in p_is D. go p d D (L.total K.zero d) }
     where
       go : (p : ℕ) (d : C) → Dist W v p d → (Below K.zero d) ⊎ ((K.zero ≡ d) ⊎ (Below d K.zero)) → (Below K.zero d) ⊎ ((K.zero ≡ d) × (v ≤ p))
       go p d D (inl l) = inl l

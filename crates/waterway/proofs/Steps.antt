@@ -42,7 +42,7 @@ module _ {C : Type 0} {K : Kind C} {W : Water K} {n : ℕ} (S : Sound W n) (home
       given = sums.sum_plus L d (toll W k) (omega (arith, cuts.dist_size S, bills.toll_small S))
 
       differ : (plus K d (toll W k) ≡ c → ⊥) → Nearer W home v k w → ⊥
-      differ no-sum x = no-sum (sums.some_injective given (rw (cuts.dist_unique S x.to_w D, cuts.dist_unique S x.to_v E) at x.adds))
+      differ no_sum x = no_sum (sums.some_injective given (rw (cuts.dist_unique S x.to_w D, cuts.dist_unique S x.to_v E) at x.adds))
 
       go : (K.Below (plus K d (toll W k)) c) ⊎ ((plus K d (toll W k) ≡ c) ⊎ (K.Below c (plus K d (toll W k)))) → Nearer W home v k w ⊎ (Nearer W home v k w → ⊥)
       go (inl l) = inr (differ (λ e. L.irrefl c (rw e at l)))
