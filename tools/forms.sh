@@ -2,7 +2,7 @@
 # Lists the places of older forms in src/, by the headings of docs/DESIGN-PASS.md. Run at the top of the repository.
 set -u
 
-sources() { find crates -path '*/src/*.rt' | sort; }
+sources() { git ls-files "crates/*/src/*.rt"; }
 # Without the files of tests.
 code() { sources | grep -v tests.rt; }
 heading() { printf '== %s\n' "$1"; }
@@ -14,7 +14,7 @@ grep -nE '^pub const (HEAD|OPEN_LEG|CLOSED_LEG|PIVOT|HOME|LAST): u8|fn rank_of' 
 heading '1c numbers for refusals'
 grep -nE 'fn (number|told)\((answer|fault)' $(sources)
 heading '1d an Option or a bool for a refusal'
-grep -nE -- '-> .*Option<(Totals|Seen)>|fn (any_call|draw_both|tied|drain)\b' $(code)
+grep -nE -- '-> .*Option<(Totals|Seen)>|fn (any_call|draw_both|tied|drain)\b.*bool' $(code)
 heading '1e a result or an option handed on by hand'
 grep -nE 'Err\([a-z]+\) => ((return )?Err|Ok\(Err)|None => (return )?None' $(sources)
 grep -nEA1 'let Some\(.*else \{' $(sources) | grep -E 'return (None|Err)'
@@ -29,8 +29,8 @@ grep -nE ' as (u8|u16|u32|u64|usize)\b' $(code)
 heading '4c printing, or a blank value, by hand'
 grep -nE '=> writeln!|fn reason|fn new\(\) -> Tally' $(code)
 heading '5 facts and parameters that travel together: requires and ensures by name, and functions of seven parameters or more'
-grep -ohE '(requires|ensures) (laid|sea|matched|balled|chart|selves|span|ran|measure|steady) \{' $(code) | sort | uniq -c
-awk '/^ *(pub(\(crate\))? )?fn /{n=0; name=$0; open=1} open&&/^    [a-z_]+: /{n++} open&&/^\)/{ if (n>=7) print FILENAME": "name" "n; open=0}' $(code)
+grep -ohE '(requires|ensures) (laid|sea|matched|balled|chart|selves|span|ran|measure|steady|right|lone|clean|tells) \{' $(code) | sort | uniq -c
+awk '/^ *(pub(\(crate\))? )?fn /{n=0; name=$0; open=1} open&&/^ *(&self,|[a-z_]+: )/{n++} open&&/^ *\)/{ if (n>=7) print FILENAME": "name" "n; open=0}' $(code)
 heading '8 proof files and lines'
-find crates -path '*/proofs/*' -name Answers.antt | wc -l
-find crates -path '*/proofs/*' -name '*.antt' -print0 | xargs -0 cat | wc -l
+git ls-files 'crates/*/proofs/*/Answers.antt' | wc -l
+git ls-files 'crates/*/proofs/*.antt' | xargs cat | wc -l

@@ -1,17 +1,18 @@
 -- What the search by bundles finds, and what it leaves.
-use Rattle.std.specs.Prelude.{◌≡◌, ℕ, ◌<◌, Bool, true, List, map, length, Some, None, Option}
+use Rattle.std.specs.Prelude.{◌≡◌, ℕ, ◌<◌, Bool, true, List, map, length, None, Ok, Err, Result}
 use Rattle.measure.specs.Kind.{Kind}
 use Rattle.queue.specs.Held.{Held, Alike, cleared}
 use Rattle.waterway.specs.declared.Label.{Label}
 use Rattle.waterway.specs.Ways.{Water, Dist, Tells}
 use Rattle.waterway.specs.Counts.{Counts}
 use Rattle.waterway.specs.Near.{NearTable, blank as blank_row}
-use Rattle.waterway.specs.Labels.{label_of}
+use Rattle.waterway.specs.Labels.{Clean, label_of}
 use Rattle.bundling.specs.declared.Near.{Near}
-use Rattle.relaxing.specs.Offers.{Blank, Clean}
+use Rattle.relaxing.specs.Offers.{Blank}
 use Rattle.relaxing.specs.Search.{near_at}
 use Rattle.hosts.specs.Local.{pair, Needed}
-use Rattle.bundle.specs.declared.Totals.{Totals}
+use Rattle.hosts.specs.declared.making.TooFewRows.{TooFewRows}
+use Rattle.bundle.specs.declared.working.Totals.{Totals}
 
 -- each label tells the distance from home, and is blank where no way leads there
 pub record Labelled {C : Type 0} {K : Kind C} (W : Water K) (home : ℕ) (labels : List (Label C)) : Type 0 where
@@ -39,14 +40,13 @@ pub record WorkedOut {C : Type 0} {K : Kind C} (W : Water K) (n : ℕ) (pivot : 
   pub reached : Counts (λ v. (c : C) × Dist W home v c) n t.reached
 
 -- the balls hold more marks than the near table has rows: the rows and the labels are blank, and the queue is cleared
-pub record TooFew {C : Type 0} {K : Kind C} (W : Water K) (n : ℕ) (pivot : ℕ → Bool) (near : List (Near C)) (labels : List (Label C)) (h h' : Held C) : Type 0 where
-  pub count : ℕ
-  pub needed : Needed W n pivot count
-  pub more : length near < count
+pub record TooFew {C : Type 0} {K : Kind C} (W : Water K) (n : ℕ) (pivot : ℕ → Bool) (near : List (Near C)) (labels : List (Label C)) (h h' : Held C) (refusal : TooFewRows) : Type 0 where
+  pub needed : Needed W n pivot refusal.needed
+  pub more : length near < refusal.needed
   pub no_rows : NoRows K near
   pub blank : Blank K labels
   pub cleared_queue : Alike h' (cleared h.span)
 
-abbrev pub Answer : {C : Type 0} {K : Kind C} → Water K → ℕ → (ℕ → Bool) → ℕ → List (Near C) → List (Label C) → Held C → Held C → Option Totals → Type 0
-Answer W n pivot home near labels h h' (Some t) = WorkedOut W n pivot home near labels h h' t
-Answer W n pivot home near labels h h' None = TooFew W n pivot near labels h h'
+abbrev pub Answer : {C : Type 0} {K : Kind C} → Water K → ℕ → (ℕ → Bool) → ℕ → List (Near C) → List (Label C) → Held C → Held C → Result Totals TooFewRows → Type 0
+Answer W n pivot home near labels h h' (Ok t) = WorkedOut W n pivot home near labels h h' t
+Answer W n pivot home near labels h h' (Err e) = TooFew W n pivot near labels h h' e

@@ -2,15 +2,19 @@
 #![tactic(auto)]
 
 ghost use Rattle.std.specs.Prelude.{◌≡◌, IfOk, vec_len};
+ghost use Rattle.waterway.specs.Priced.{water};
+ghost use Rattle.bundle_tests.specs.Trying.{Checked, Tried};
 
 use bundle::{Totals, work_out};
 use bundling::{Host, Near};
 use measure::{Cost, Measure};
 use plain::all_lie;
 use queue::Queue;
+use refusal::Refusal;
 use std::alloc::{AllocError, Global};
 use waterway::{Label, Leg};
 
+pub mod refusal;
 #[cfg(test)]
 mod tests;
 
@@ -18,20 +22,39 @@ mod tests;
 fn blank_hosts<C: Cost>(heap: Global, marks: usize) -> Result<Vec<Host<C>>, AllocError>
     ensures { IfOk result (λ v. vec_len v ≡ marks) }
 {
-    let mut hosts = Vec::new(heap);
-    for _mark in 0..marks {
-        hosts.push(Host {
-            known: false,
-            mark: 0,
-            cost: C::zero(),
-            start: 0,
-            end: 0,
-        })?;
-    }
-    Ok(hosts)
+    let blank = Host {
+        pivot: None,
+        start: 0,
+        end: 0,
+    };
+    Ok(vec![in heap; blank; marks]?)
 }
 
-// Works out, or None where these legs and marks make no chart, home is no pivot, or a table or the queue is too small.
+// Whether legs, pivots and home make a chart, with a label for each mark and a queue that spans them.
+fn check(legs: &[Leg], pivots: &[bool], labels: usize, span: u16, home: u16) -> Result<(), Refusal>
+    ensures { Checked legs.now pivots.now labels span home result }
+{
+    let marks = pivots.len();
+    if marks > 256 {
+        return Err(Refusal::TooManyMarks);
+    }
+    if labels < marks {
+        return Err(Refusal::TooFewLabels);
+    }
+    if usize::from(span) < marks {
+        return Err(Refusal::ShortQueue);
+    }
+    let is_pivot = *pivots.get(usize::from(home)).ok_or(Refusal::HomeOffChart)?;
+    if !is_pivot {
+        return Err(Refusal::HomeNoPivot);
+    }
+    if !all_lie(legs, marks) {
+        return Err(Refusal::LegOffChart);
+    }
+    Ok(())
+}
+
+// Works out the hosts, the near table and the labels.
 pub fn try_work_out<M: Measure, Q: Queue<M::Cost>>(
     heap: Global,
     m: &M,
@@ -41,23 +64,21 @@ pub fn try_work_out<M: Measure, Q: Queue<M::Cost>>(
     labels: &mut [Label<M::Cost>],
     queue: &mut Q,
     home: u16,
-) -> Result<Option<Totals>, AllocError> {
-    let marks = pivots.len();
-    if marks > 256 || labels.len() < marks {
-        return Ok(None);
-    }
-    if (queue.span() as usize) < marks || (home as usize) >= marks {
-        return Ok(None);
-    }
-    if !pivots[home as usize] {
-        return Ok(None);
-    }
-    if !all_lie(legs, marks) {
-        return Ok(None);
-    }
-    let mut selves = blank_hosts(heap, marks)?;
-    let mut hosts = blank_hosts(heap, marks)?;
-    let selves = selves.as_mut_slice();
-    let hosts = hosts.as_mut_slice();
-    Ok(work_out(m, legs, pivots, selves, hosts, near, labels, queue, home))
+) -> Result<Totals, Refusal>
+    ensures { Tried (water M.Cost.Cost.kind (M.Measure.priced m.now) legs.now) pivots.now home near.old near.new labels.old labels.new (Q.Queue.held queue.old) (Q.Queue.held queue.new) result }
+{
+    check(legs, pivots, labels.len(), queue.span(), home)?;
+    let mut selves = blank_hosts(heap, pivots.len())?;
+    let mut hosts = blank_hosts(heap, pivots.len())?;
+    Ok(work_out(
+        m,
+        legs,
+        pivots,
+        &mut selves,
+        &mut hosts,
+        near,
+        labels,
+        queue,
+        home,
+    )?)
 }

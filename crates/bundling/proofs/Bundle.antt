@@ -1,11 +1,12 @@
 -- After step 1 every mark hosted by what is drawn has its exact label.
 use Rattle.std.proofs.Common.{◌≡◌, ℕ, ◌+◌, ◌≤◌, Bool, Some, Option, inl, inr, arith}
+use Rattle.std.proofs.lemmas.Bool.{cases_Bool}
 use Rattle.measure.specs.Kind.{Kind, AtMost, limit}
 use Rattle.measure.proofs.Sums.{at_most_trans, at_most_antisym, below_or, zero_at_most, below_at_most, plus, size_plus, plus_assoc, plus_halves, plus_chain, zero_plus, plus_mono, below_cancel_left}
 use Rattle.waterway.specs.Labels.{Within}
 use Rattle.waterway.proofs.Written.{within_lower}
 use Rattle.bundling.proofs.Graph.{Hosts}
-use Rattle.bundling.proofs.Queue.{either_way, Held}
+use Rattle.bundling.proofs.Queue.{Held}
 use Rattle.bundling.proofs.Nearby.{away, same_away, away_self, away_turn, triangle, pinned, Away}
 use Rattle.bundling.proofs.Crossing.{Crossing, crossing, Inner, Outer, inner_or_outer}
 use Rattle.bundling.proofs.Labels.{tight, exact_if}
@@ -109,7 +110,7 @@ module _ {C : Type 0} {K : Kind C} {dist : ℕ → ℕ → Option C} {Edge : ℕ
 
         reach : (d : C) → Away ways s v d → Within K (label' v) d
         reach d q =
-            elim (either_way (drawn s)) [
+            elim (cases_Bool (drawn s)) [
               | inl b ↦ by_front q (front hosts ready b q (rw mine held.undrawn))
               | inr b ↦ at_first q (first_draw hosts ready held least b)
             ]

@@ -1,10 +1,11 @@
 -- What is drawn has its exact label.
-use Rattle.std.proofs.Common.{◌≡◌, ℕ, Bool, true, false, Some, Option, sym, ap, ◌∙◌, inl, inr, arith}
+use Rattle.std.proofs.Common.{◌≡◌, ℕ, Bool, true, false, Some, Option, ap, ◌∙◌, inl, inr, arith}
+use Rattle.std.proofs.lemmas.Bool.{cases_Bool}
 use Rattle.measure.specs.Kind.{Kind, AtMost}
 use Rattle.measure.proofs.Sums.{some_injective, at_most_trans, at_most_antisym, zero_at_most, plus, sum_plus, plus_mono_left, plus_more}
 use Rattle.waterway.specs.Labels.{Within}
 use Rattle.bundling.proofs.Graph.{Hosts}
-use Rattle.bundling.proofs.Queue.{true_false, either_way, Held}
+use Rattle.bundling.proofs.Queue.{true_false, Held}
 use Rattle.bundling.proofs.Nearby.{away, same_away, away_turn, Away}
 use Rattle.bundling.proofs.Crossing.{Crossing, crossing}
 use Rattle.bundling.proofs.Labels.{tight}
@@ -34,7 +35,7 @@ module _ {C : Type 0} {K : Kind C} {dist : ℕ → ℕ → Option C} {Edge : ℕ
     -- The host of a mark with an exact label has an offer from it; a pivot is its own host.
     host_label : {y : ℕ} {a h : C} → label y ≡ Some a → Away ways s y a → Away ways y (host y) h → Within K (label (host y)) (a ⊕ h)
     host_label {y} {a} {h} e p q =
-        elim (either_way (pivot y)) [
+        elim (cases_Bool (pivot y)) [
           | inl k ↦ record { value = a; is = rw (hosts.own y k) e; upto = plus_more L a h (omega arith) }
           | inr k ↦ ready.to_host y a h (a ⊕ h) k e q.is (sum_plus L a h (omega arith))
         ]
@@ -51,7 +52,7 @@ module _ {C : Type 0} {K : Kind C} {dist : ℕ → ℕ → Option C} {Edge : ℕ
 
     pub front : {v : ℕ} {d : C} → drawn s ≡ true → Away ways s v d → Unsettled v → Front v
     front {v} {d} b p un =
-        elim (crossing ways {P = Settled} {Q = Unsettled} (λ z. either_way (drawn (host z))) p (rw (hosts.own s hosts.source) b)) [
+        elim (crossing ways {P = Settled} {Q = Unsettled} (λ z. cases_Bool (drawn (host z))) p (rw (hosts.own s hosts.source) b)) [
           | inl k ↦ true_false k un
           | inr c ↦ found c
         ]
@@ -86,7 +87,7 @@ module _ {C : Type 0} {K : Kind C} {dist : ℕ → ℕ → Option C} {Edge : ℕ
       -- No pivot that waits is nearer than the key.
       pub key_upto : {p : ℕ} {d : C} → pivot p ≡ true → drawn p ≡ false → Away ways s p d → k ≼ d
       key_upto {p} {d} piv un q =
-          elim (either_way (drawn s)) [
+          elim (cases_Bool (drawn s)) [
             | inl b ↦ by_front (front b q (rw (hosts.own p piv) un))
             | inr b ↦ rw (first_draw b).1 (zero_at_most L d)
           ]
@@ -106,6 +107,3 @@ module _ {C : Type 0} {K : Kind C} {dist : ℕ → ℕ → Option C} {Edge : ℕ
           let m = ready.above u k held.key in
           let q = away ways m.is in
           rw (at_most_antisym L m.upto (key_upto held.pivotal held.undrawn q)) at q
-
-      pub exact_draw : label u ≡ dist s u
-      exact_draw = held.key ∙ sym exact_key.is

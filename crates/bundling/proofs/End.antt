@@ -1,11 +1,12 @@
 -- When nothing is held, the labels are the distances.
-use Rattle.std.proofs.Common.{◌≡◌, ℕ, Bool, true, Some, Option, inl, inr}
+use Rattle.std.proofs.Common.{◌≡◌, ℕ, Bool, true, Some, Option}
+use Rattle.std.proofs.lemmas.Bool.{true_from_ne_false}
 use Rattle.measure.specs.Kind.{Kind}
 use Rattle.waterway.proofs.Written.{lower_refl}
 use Rattle.bundling.proofs.Graph.{Hosts}
-use Rattle.bundling.proofs.Queue.{either_way, Held}
+use Rattle.bundling.proofs.Queue.{Held}
 use Rattle.bundling.proofs.Nearby.{away}
-use Rattle.bundling.proofs.Labels.{exact_if, no_fall}
+use Rattle.bundling.proofs.Labels.{exact_if}
 use Rattle.bundling.proofs.Steps.{Ready}
 use Rattle.bundling.proofs.Draw.{front}
 
@@ -19,22 +20,16 @@ module _ {C : Type 0} {K : Kind C} {dist : ℕ → ℕ → Option C} {Edge : ℕ
     module _ (empty : (p : ℕ) (k : C) → Held pivot label drawn p k → ⊥) where
       source_drawn : drawn s ≡ true
       source_drawn =
-          elim (either_way (drawn s)) [
-            | inl b ↦ b
-            | inr b ↦ absurd (empty s zero (record { pivotal = hosts.source; undrawn = b; key = ready.start }))
-          ]
+          true_from_ne_false (drawn s) (λ b. empty s zero (record { pivotal = hosts.source; undrawn = b; key = ready.start }))
 
       pub all_settled : (v : ℕ) (d : C) → dist s v ≡ Some d → drawn (host v) ≡ true
       all_settled v d e =
-          elim (either_way (drawn (host v))) [
-            | inl b ↦ b
-            | inr b ↦ let f = front hosts ready source_drawn (away ways e) b in absurd (empty (host f.cross.y) f.j f.held)
-          ]
+          true_from_ne_false (drawn (host v)) (λ b. let f = front hosts ready source_drawn (away ways e) b in empty (host f.cross.y) f.j f.held)
 
       -- the labels are the costs of the cheapest ways, and None where there is no way
       pub exact_end : (v : ℕ) → label v ≡ dist s v
       exact_end v =
-          exact_if ways ready.above v (λ d p. no_fall ways (ready.exact v (all_settled v d p.is)) (lower_refl ways.lawful (dist s) v d p.is))
+          exact_if ways ready.above v (λ d p. rw (ready.exact v (all_settled v d p.is)) (lower_refl ways.lawful (dist s) v d p.is))
 
       -- the drawn pivots are those that have a way
       pub drawn_end : (p : ℕ) → (drawn p ≡ true → (pivot p ≡ true) × ((d : C) × (dist s p ≡ Some d)))

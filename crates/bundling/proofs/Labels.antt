@@ -48,9 +48,6 @@ module _ {C : Type 0} {K : Kind C} {dist : ℕ → ℕ → Option C} {Edge : ℕ
           go None f (Some c) g = some_none (above v c g).is f
           go (Some d) f l g = sym g ∙ tight (reach d (away ways f)) (away ways f)
 
-    -- An exact label stays as it is, and no offer is below it.
+    -- An exact label stays as it is.
     pub stays : {label label' : ℕ → Option C} → Lower K label label' → Above K dist s label' → (v : ℕ) → label v ≡ dist s v → label' v ≡ dist s v
     stays lower above v e = exact_if above v (λ d p. lower v d (e ∙ p.is))
-
-    pub no_fall : {o : Option C} {y : ℕ} {r : C} → o ≡ dist s y → Within K (dist s y) r → Within K o r
-    no_fall e m = record { value = m.value; is = e ∙ m.is; upto = m.upto }

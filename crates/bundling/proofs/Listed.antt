@@ -2,17 +2,12 @@
 use Rattle.std.proofs.Common.{◌≡◌, ℕ, ◌+◌, ◌<◌, List, [], ◌∷◌, ◌++◌, inl, inr, arith}
 use native.Mathlib.Decide.{ℕ_discrete}
 use Rattle.std.specs.List.{ContainsAt as Has, AllByRecursion}
-use Rattle.std.proofs.ByRecursion.{has_push, has_push_cases, has_append_left, All-push}
+use Rattle.std.proofs.ByRecursion.{has_push, has_push_cases, has_append_left, all_has_itself, All-push, All-weaker}
 use Rattle.waterway.specs.Counts.{Rising, Lists}
-use Rattle.waterway.proofs.Counted.{has_here, has_there}
 
 rising_push : (xs : List ℕ) (m : ℕ) → Rising xs → AllByRecursion (λ x. x < m) xs → Rising (xs ++ m ∷ [])
 rising_push [] m r a = (tt, tt)
 rising_push (x ∷ xs) m r a = (All-push (λ y. x < y) xs m r.0 a.0, rising_push xs m r.1 a.1)
-
-all_if : (P : ℕ → Type 0) (xs : List ℕ) → ((x : ℕ) → Has xs x → P x) → AllByRecursion P xs
-all_if P [] h = tt
-all_if P (x ∷ xs) h = (h x (has_here x xs), all_if P xs (λ y g. h y (has_there x y xs g)))
 
 module _ {P : ℕ → Type 0} where
   pub lists_none : (n : ℕ) → ((x : ℕ) → x < n → P x → ⊥) → Lists P n []
@@ -22,7 +17,7 @@ module _ {P : ℕ → Type 0} where
     -- m has the property too
     pub lists_push : P m → Lists P n (xs ++ m ∷ [])
     lists_push p = record {
-      rising = rising_push xs m r.rising (all_if (λ x. x < m) xs (λ x h. (r.only x h).0));
+      rising = rising_push xs m r.rising (All-weaker (Has xs) (λ x. x < m) (λ x h. (r.only x h).0) xs (all_has_itself xs));
       only = λ x h. elim (has_push_cases xs m x h) [ inl g ↦ (let o = r.only x g in let lt = o.0 in (omega arith, o.1)) | inr e ↦ (omega arith, rw e at p) ];
       every = λ x lt q. elim (ℕ_discrete x m) [ yes e ↦ rw e (has_push xs m) | no e ↦ has_append_left xs (m ∷ []) x (r.every x (omega arith) q) ];
     }

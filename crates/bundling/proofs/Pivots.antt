@@ -1,6 +1,7 @@
 -- The hosts and the balls of a waterway are such as the search asks for.
 use Rattle.std.proofs.Common.{◌≡◌, ℕ, ◌≤◌, Bool, true, false, T, List, sym, refl, ◌∙◌, arith}
 use native.Mathlib.Decide.{dec_lt}
+use Rattle.std.proofs.lemmas.Float.{T_from_true}
 use Rattle.measure.specs.Kind.{Kind}
 use Rattle.measure.proofs.Sums as sums
 use Rattle.waterway.specs.Ways.{Walk, stay, along, Water, Dist, Sound, Dear}
@@ -10,14 +11,9 @@ use Rattle.waterway.proofs.Metric as metric
 use Rattle.waterway.proofs.Distance.{dist, dist_found, dist_is}
 use Rattle.waterway.proofs.Hosts as hosts
 use Rattle.bundling.proofs.Graph.{Hosted, Hosts, Ball}
-use Rattle.bundling.proofs.Queue.{true_false}
 use Rattle.bundling.proofs.Water.{Edge, ways}
 
 -- a Boolean that holds is true
-pub holds : (b : Bool) → b ≡ true → T b
-holds true e = tt
-holds false e = true_false e refl
-
 pub is_true : (b : Bool) → T b → b ≡ true
 is_true true t = refl
 is_true false t = absurd t
@@ -71,8 +67,8 @@ module _ {C : Type 0} {K : Kind C} {W : Water K} {n : ℕ} (S : Sound W n) (pivo
       bundles = record {
         ways = ways S;
         source = is_true _ home_pivot;
-        own = λ p b. own_host p (holds _ b);
-        near = λ v p d b e. near_host v p d (holds _ b) (dist_found S e);
+        own = λ p b. own_host p (T_from_true _ b);
+        near = λ v p d b e. near_host v p d (T_from_true _ b) (dist_found S e);
       }
 
     -- the balls of the search are those of the waterway, at each mark that has a host

@@ -1,10 +1,11 @@
 -- What holds between two draws, and what the steps of an iteration do.
-use Rattle.std.proofs.Common.{◌≡◌, ℕ, Bool, true, false, ◌⊎◌, Some, Option, sym, ap, ◌∙◌, inl, inr}
+use Rattle.std.proofs.Common.{◌≡◌, ℕ, Bool, true, false, ◌⊎◌, Some, Option, sym, ap, ◌∙◌}
+use Rattle.std.proofs.lemmas.Bool.{false_from_ne_true}
 use Rattle.measure.specs.Kind.{Kind, AtMost}
 use Rattle.measure.proofs.Sums.{some_injective, at_most_eq, plus}
 use Rattle.waterway.specs.Labels.{Within, Lower}
 use Rattle.bundling.proofs.Graph.{Hosts, Ball, Above}
-use Rattle.bundling.proofs.Queue.{true_false, either_way}
+use Rattle.bundling.proofs.Queue.{true_false}
 use Rattle.bundling.proofs.Nearby.{same_away, away_self, Away}
 
 module _ {C : Type 0} {K : Kind C} {dist : ℕ → ℕ → Option C} {Edge : ℕ → ℕ → C → Type 0} {pivot : ℕ → Bool} {host : ℕ → ℕ} {s : ℕ}
@@ -27,11 +28,10 @@ module _ {C : Type 0} {K : Kind C} {dist : ℕ → ℕ → Option C} {Edge : ℕ
   -- A mark nearer than the host is in the ball: to a pivot nothing is nearer than itself.
   pub in_ball : {v z : ℕ} {b h : C} → Away ways v z b → Away ways v (host v) h → Below b h → InBall v z
   in_ball {v} {z} {b} {h} p q l =
-      record { outer = outer (either_way (pivot v)); cost = b; is = p.is; rim = h; rim_is = q.is; inside = l }
+      record { outer = outer; cost = b; is = p.is; rim = h; rim_is = q.is; inside = l }
     where
-      outer : (pivot v ≡ true) ⊎ (pivot v ≡ false) → pivot v ≡ false
-      outer (inr e) = e
-      outer (inl e) = absurd (L.least b (rw (same_away ways (rw (hosts.own v e) at q) (away_self ways v)) at l))
+      outer : pivot v ≡ false
+      outer = false_from_ne_true (pivot v) (λ e. L.least b (rw (same_away ways (rw (hosts.own v e) at q) (away_self ways v)) at l))
 
   -- What holds between two draws. A mark is settled when its host is drawn.
   pub record Ready (label : ℕ → Option C) (drawn : ℕ → Bool) : Type 0 where

@@ -1,9 +1,10 @@
 -- How many of the numbers below n pass a test.
-use Rattle.std.proofs.Common.{◌≡◌, ℕ, zero, suc, ◌+◌, ◌<◌, ◌≤◌, Bool, true, false, ◌↔◌, [], ◌∷◌, ◌++◌, sym, refl, ap, ◌∙◌, inl, inr, add-one, arith, length-append}
+use Rattle.std.proofs.Common.{◌≡◌, ℕ, zero, suc, ◌+◌, ◌<◌, ◌≤◌, Bool, true, false, ◌↔◌, [], ◌∷◌, ◌++◌, sym, refl, ap, ◌∙◌, inl, inr, arith, length-append}
+use Rattle.std.proofs.lemmas.Bool.{cases_Bool}
 use Rattle.waterway.specs.Counts.{Counts}
 use Rattle.queue.proofs.Tally.{one_if, tally, tally_more}
 use Rattle.bundling.proofs.Listed.{lists_none, lists_push, lists_skip}
-use Rattle.bundling.proofs.Queue.{true_false, either_way, Draws, is_undrawn}
+use Rattle.bundling.proofs.Queue.{true_false, Draws, is_undrawn}
 
 module _ (f : ℕ → Bool) where
   pub tally_below : (n : ℕ) → tally f n ≤ n
@@ -19,15 +20,12 @@ module _ (f : ℕ → Bool) where
   tally_none (suc m) none = omega (arith, ap one_if (none m), tally_none m none)
 
   pub tally_drawn : {g : ℕ → Bool} {u : ℕ} (n : ℕ) → Draws f g u → u < n → f u ≡ false → tally g n ≡ tally f n + 1
-  tally_drawn {g} {u} n draws lt e = tally_more f g n u lt e draws.now (λ p ne. elim (either_way (f p)) [ inl b ↦ draws.kept p b ∙ sym b | inr b ↦ is_undrawn draws p ne b ∙ sym b ])
-
-pub tally_next : (f : ℕ → Bool) (m : ℕ) → tally f (m + 1) ≡ one_if (f m) + tally f m
-tally_next f m = rw add-one
+  tally_drawn {g} {u} n draws lt e = tally_more f g n u lt e draws.now (λ p ne. elim (cases_Bool (f p)) [ inl b ↦ draws.kept p b ∙ sym b | inr b ↦ is_undrawn draws p ne b ∙ sym b ])
 
 module _ (f : ℕ → Bool) (P : ℕ → Type 0) (is : (p : ℕ) → (f p ≡ true) ↔ P p) where
   pub tally_counts : (n : ℕ) → Counts P n (tally f n)
   tally_counts zero = record { those = []; lists = lists_none 0 (λ x lt p. omega arith); many = refl }
-  tally_counts (suc m) = let c = tally_counts m in elim (either_way (f m)) [
+  tally_counts (suc m) = let c = tally_counts m in elim (cases_Bool (f m)) [
     | inl b ↦ record {
       those = c.those ++ m ∷ [];
       lists = lists_push c.lists (omega arith) ((is m).0 b);

@@ -25,6 +25,7 @@ pub fn run<M: Measure + Drop>(
 {
     let mut chart = Chart::begin(heap, measure)?;
     let mut answers = Vec::new(heap);
+    // A loop: of the chart that a closure changes, no proof of a chain knows.
     for call in calls {
         answers.push(perform(&mut chart, *call))?;
     }

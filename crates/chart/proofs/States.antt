@@ -2,7 +2,8 @@
 use Rattle.std.proofs.Common.{◌≡◌, ℕ, Bool, List, [], ◌∷◌, length, Some, None, Option, refl, arith}
 use Rattle.waterway.specs.declared.Leg.{Leg}
 use Rattle.chart.specs.declared.sheet.Chart.{Chart}
-use Rattle.chart.specs.Charted.{Charted, HomeIn}
+use Rattle.waterway.specs.Priced.{Charted}
+use Rattle.chart.specs.Sound.{HomeIn}
 use Rattle.chart.specs.Possible.{Possible}
 use Rattle.chart.specs.Shown.{state}
 use Rattle.chart.specs.State.{State, marks, blank}
@@ -10,11 +11,10 @@ use Rattle.chart.specs.State.{State, marks, blank}
 pub possible : {M : Type 0} (chart : Chart M) → Possible (state chart)
 possible chart =
     let sheet = chart.sheet in
-    let pivots = sheet.pivots.ok.0 in
-    let legs = sheet.legs.ok.0 in
+    let pivots = sheet.pivots.items.ok.0 in
+    let legs = sheet.legs.items.ok.0 in
     record {
-      marks_few = omega (arith, sheet.marks_few);
-      legs_few = omega (arith, sheet.legs_few);
+      legs_few = omega (arith, sheet.legs.few);
       charted = rw pivots at sheet.charted;
       parted = sheet.parted;
       single = sheet.single;
@@ -22,9 +22,9 @@ possible chart =
       idle = sheet.idle;
     }
 
-no_legs : (legs : List Leg) → Charted 0 legs → legs ≡ []
+no_legs : (legs : List Leg) → Charted legs 0 → legs ≡ []
 no_legs [] charted = refl
-no_legs (leg ∷ legs) charted = let off = (charted 0 (omega arith)).3 in absurd (omega arith)
+no_legs (leg ∷ legs) charted = let off = charted.from_in 0 (omega arith) in absurd (omega arith)
 
 no_home : (home : Option ℕ) → HomeIn 0 home → home ≡ None
 no_home None inside = refl

@@ -26,8 +26,8 @@ adding s = ((256 ≤ marks s) refuses_by MarksFull) ∷ []
 abbrev pub with_mark : State → State
 with_mark s = record { legs = s.legs; pivots = s.pivots ++ false ∷ []; home = s.home; worked = false }
 
-abbrev pub AddsMark : State → Result ℕ Refusal → State → Type 0
-AddsMark s = Brings (adding s) (marks s) s (with_mark s)
+abbrev pub AddsMark : Result ℕ Refusal → State → State → Type 0
+AddsMark r s = Brings (adding s) (marks s) s (with_mark s) r
 
 -- Entering a leg between the marks a and b: it gets the next number, and is open
 
@@ -43,8 +43,8 @@ with_leg s a b tenths locks = record {
   worked = false;
 }
 
-abbrev pub EntersLeg : State → ℕ → ℕ → ℕ → ℕ → Result ℕ Refusal → State → Type 0
-EntersLeg s a b tenths locks = Brings (entering s a b tenths locks) (length s.legs) s (with_leg s a b tenths locks)
+abbrev pub EntersLeg : ℕ → ℕ → ℕ → ℕ → Result ℕ Refusal → State → State → Type 0
+EntersLeg a b tenths locks r s = Brings (entering s a b tenths locks) (length s.legs) s (with_leg s a b tenths locks) r
 
 -- Closing and reopening the leg k: it must not be so already
 
@@ -59,8 +59,8 @@ with_leg_turned s k to_open = let leg = leg_at s.legs k in record {
   worked = false;
 }
 
-abbrev pub TurnsLeg : State → ℕ → Bool → Result (Unit {0}) Refusal → State → Type 0
-TurnsLeg s k to_open = Brings (turning s k to_open) tt s (with_leg_turned s k to_open)
+abbrev pub TurnsLeg : ℕ → Bool → Result (Unit {0}) Refusal → State → State → Type 0
+TurnsLeg k to_open r s = Brings (turning s k to_open) tt s (with_leg_turned s k to_open) r
 
 -- Naming a mark that is home from then on, or is a pivot or none from then on
 
@@ -70,12 +70,12 @@ naming s mark = ((marks s ≤ mark) refuses_by NoSuchMark) ∷ []
 abbrev pub with_home : State → ℕ → State
 with_home s mark = record { legs = s.legs; pivots = s.pivots; home = Some mark; worked = false }
 
-abbrev pub SetsHome : State → ℕ → Result (Unit {0}) Refusal → State → Type 0
-SetsHome s mark = Brings (naming s mark) tt s (with_home s mark)
+abbrev pub SetsHome : ℕ → Result (Unit {0}) Refusal → State → State → Type 0
+SetsHome mark r s = Brings (naming s mark) tt s (with_home s mark) r
 
 -- a chart that is worked out stays so
 abbrev pub with_pivot : State → ℕ → Bool → State
 with_pivot s mark is_pivot = record { legs = s.legs; pivots = slice_set s.pivots mark is_pivot; home = s.home; worked = s.worked }
 
-abbrev pub SetsPivot : State → ℕ → Bool → Result (Unit {0}) Refusal → State → Type 0
-SetsPivot s mark is_pivot = Brings (naming s mark) tt s (with_pivot s mark is_pivot)
+abbrev pub SetsPivot : ℕ → Bool → Result (Unit {0}) Refusal → State → State → Type 0
+SetsPivot mark is_pivot r s = Brings (naming s mark) tt s (with_pivot s mark is_pivot) r

@@ -1,6 +1,6 @@
 pub mod Refusals
 pub mod State
 pub mod Calls
-pub mod Charted
+pub mod Sound
 pub mod Possible
 pub mod Shown

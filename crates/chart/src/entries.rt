@@ -1,26 +1,15 @@
 // The calls that enter and change what a chart has.
 ghost use Rattle.std.specs.Prelude.{◌≡◌, true, false, IfOk};
 ghost use Rattle.chart.specs.State.{blank};
-ghost use Rattle.chart.specs.Shown.{state};
+ghost use Rattle.chart.specs.Shown.{state, Changes};
 ghost use Rattle.chart.specs.Calls.{AddsMark, EntersLeg, TurnsLeg, SetsHome, SetsPivot};
 
+use crate::bounded::Bounded;
 use crate::refusal::Refusal;
 use crate::sheet::{Chart, Sheet};
 use measure::Measure;
 use std::alloc::{AllocError, Global};
-use waterway::{Leg, joined};
-
-// A chart has at most so many marks and legs.
-const MARKS: usize = 256;
-
-const LEGS: usize = 1024;
-
-// The limits of a leg, in tenths of a nautical mile and in locks.
-const SHORTEST: u16 = 1;
-
-const LONGEST: u16 = 60_000;
-
-const MOST_LOCKS: u8 = 99;
+use waterway::{Leg, is_legal, joined};
 
 impl<M: Measure> Chart<M> {
     // A blank chart, or none for want of memory: no later call asks for any.
@@ -29,11 +18,9 @@ impl<M: Measure> Chart<M> {
         M: Drop,
         ensures { IfOk result (λ chart. (state chart ≡ blank) × (chart.measure ≡ measure)) }
     {
-        let legs = Vec::with_capacity(heap, LEGS)?;
-        let pivots = Vec::with_capacity(heap, MARKS)?;
         let sheet = Sheet {
-            legs,
-            pivots,
+            legs: Bounded::begin(heap)?,
+            pivots: Bounded::begin(heap)?,
             home: None,
             worked: false,
         };
@@ -42,52 +29,49 @@ impl<M: Measure> Chart<M> {
 
     // Makes the chart blank again.
     pub fn clear(&mut self)
-        ensures blank { state self.new ≡ blank }
-        ensures measure { self.new.measure ≡ self.old.measure }
+        ensures { Changes (λ _ after. after ≡ blank) self.old self.new }
     {
         self.sheet.worked = false;
         self.sheet.home = None;
-        self.sheet.legs.clear();
-        self.sheet.pivots.clear();
+        self.sheet.legs.items.clear();
+        self.sheet.pivots.items.clear();
     }
 
     // Adds a mark, and gives its number.
     pub fn add_mark(&mut self) -> Result<u16, Refusal>
-        ensures brings { AddsMark (state self.old) result (state self.new) }
-        ensures measure { self.new.measure ≡ self.old.measure }
+        ensures { Changes (AddsMark result) self.old self.new }
     {
-        let mark = self.sheet.pivots.len();
-        if mark >= MARKS {
+        if self.sheet.pivots.is_full() {
             return Err(Refusal::MarksFull);
         }
-        self.sheet.pivots.push_reserved(false);
+        let mark = self.marks();
+        self.sheet.pivots.push(false);
         self.sheet.worked = false;
-        Ok(mark as u16)
+        Ok(mark)
     }
 
     // Enters an open leg between a and b, and gives its number. The length is in tenths of a nautical mile.
     pub fn enter_leg(&mut self, a: u16, b: u16, length: u16, locks: u8) -> Result<u16, Refusal>
-        ensures brings { EntersLeg (state self.old) a b length locks result (state self.new) }
-        ensures measure { self.new.measure ≡ self.old.measure }
+        ensures { Changes (EntersLeg a b length locks result) self.old self.new }
     {
-        let marks = self.sheet.pivots.len();
-        if usize::from(a) >= marks || usize::from(b) >= marks {
+        if a >= self.marks() || b >= self.marks() {
             return Err(Refusal::NoSuchMark);
         }
         if a == b {
             return Err(Refusal::SameEnds);
         }
-        if length < SHORTEST || length > LONGEST || locks > MOST_LOCKS {
+        if !is_legal(length, locks) {
             return Err(Refusal::OutOfLimits);
         }
-        let number = self.sheet.legs.len();
-        if number >= LEGS {
+        if self.sheet.legs.is_full() {
             return Err(Refusal::LegsFull);
         }
-        if joined(self.sheet.legs.as_slice(), a, b) {
+        if joined(self.legs(), a, b) {
             return Err(Refusal::JoinedAlready);
         }
-        self.sheet.legs.push_reserved(Leg {
+        // The cast loses nothing: there are at most 1,024.
+        let number = self.legs().len() as u16;
+        self.sheet.legs.push(Leg {
             from: a,
             to: b,
             length,
@@ -95,47 +79,43 @@ impl<M: Measure> Chart<M> {
             open: true,
         });
         self.sheet.worked = false;
-        Ok(number as u16)
+        Ok(number)
     }
 
     // Closes an open leg.
     pub fn close(&mut self, leg: u16) -> Result<(), Refusal>
-        ensures brings { TurnsLeg (state self.old) leg false result (state self.new) }
-        ensures measure { self.new.measure ≡ self.old.measure }
+        ensures { Changes (TurnsLeg leg false result) self.old self.new }
     {
         self.turn(leg, false)
     }
 
     // Opens a closed leg again.
     pub fn reopen(&mut self, leg: u16) -> Result<(), Refusal>
-        ensures brings { TurnsLeg (state self.old) leg true result (state self.new) }
-        ensures measure { self.new.measure ≡ self.old.measure }
+        ensures { Changes (TurnsLeg leg true result) self.old self.new }
     {
         self.turn(leg, true)
     }
 
     fn turn(&mut self, leg: u16, open: bool) -> Result<(), Refusal>
-        ensures brings { TurnsLeg (state self.old) leg «open» result (state self.new) }
-        ensures measure { self.new.measure ≡ self.old.measure }
+        ensures { Changes (TurnsLeg leg «open» result) self.old self.new }
     {
         let at = usize::from(leg);
-        if at >= self.sheet.legs.len() {
+        if at >= self.legs().len() {
             return Err(Refusal::NoSuchLeg);
         }
-        if self.sheet.legs[at].open == open {
+        if self.legs()[at].open == open {
             return Err(Refusal::StandsAlready);
         }
-        self.sheet.legs[at].open = open;
+        self.sheet.legs.items[at].open = open;
         self.sheet.worked = false;
         Ok(())
     }
 
     // Makes the mark home from now on.
     pub fn set_home(&mut self, mark: u16) -> Result<(), Refusal>
-        ensures brings { SetsHome (state self.old) mark result (state self.new) }
-        ensures measure { self.new.measure ≡ self.old.measure }
+        ensures { Changes (SetsHome mark result) self.old self.new }
     {
-        if usize::from(mark) >= self.sheet.pivots.len() {
+        if mark >= self.marks() {
             return Err(Refusal::NoSuchMark);
         }
         self.sheet.home = Some(mark);
@@ -145,14 +125,12 @@ impl<M: Measure> Chart<M> {
 
     // Marks the mark as a pivot, or as none, from now on. A chart that is worked out stays so.
     pub fn set_pivot(&mut self, mark: u16, pivot: bool) -> Result<(), Refusal>
-        ensures brings { SetsPivot (state self.old) mark pivot result (state self.new) }
-        ensures measure { self.new.measure ≡ self.old.measure }
+        ensures { Changes (SetsPivot mark pivot result) self.old self.new }
     {
-        let at = usize::from(mark);
-        if at >= self.sheet.pivots.len() {
+        if mark >= self.marks() {
             return Err(Refusal::NoSuchMark);
         }
-        self.sheet.pivots[at] = pivot;
+        self.sheet.pivots.items[usize::from(mark)] = pivot;
         Ok(())
     }
 }

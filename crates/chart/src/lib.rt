@@ -1,6 +1,7 @@
 // A charted waterway: its marks and legs, home and pivots, under one measure.
 #![tactic(auto)]
 
+mod bounded;
 pub mod entries;
 pub mod refusal;
 pub mod sheet;

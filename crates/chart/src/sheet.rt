@@ -1,8 +1,15 @@
 // What a chart keeps.
-ghost use Rattle.std.specs.Prelude.{◌≡◌, ◌≤◌, false, None, vec_len, vec_capacity};
-ghost use Rattle.chart.specs.Charted.{Charted, Parted, Single, HomeIn};
+ghost use Rattle.std.specs.Prelude.{◌≡◌, false, None, vec_len};
+ghost use Rattle.waterway.specs.Priced.{Charted};
+ghost use Rattle.chart.specs.Sound.{Parted, Single, HomeIn};
 
+use crate::bounded::Bounded;
 use waterway::Leg;
+
+// A chart has at most so many marks and legs.
+pub(crate) const MARKS: usize = 256;
+
+pub(crate) const LEGS: usize = 1024;
 
 // A charted waterway under one measure, which it keeps.
 #[derive(Drop)]
@@ -12,20 +19,15 @@ pub struct Chart<M> {
 }
 
 // The legs by number, each mark's pivot marking by number, home, and whether the chart is worked out.
-// Room for all of it is taken when the chart is begun.
 #[derive(Drop)]
 pub struct Sheet {
-    pub(crate) legs: Vec<Leg>,
-    pub(crate) pivots: Vec<bool>,
+    pub(crate) legs: Bounded<Leg, LEGS>,
+    pub(crate) pivots: Bounded<bool, MARKS>,
     pub(crate) home: Option<u16>,
     pub(crate) worked: bool,
-    ghost legs_room: { 1024 ≤ vec_capacity legs },
-    ghost marks_room: { 256 ≤ vec_capacity pivots },
-    ghost legs_few: { vec_len legs ≤ 1024 },
-    ghost marks_few: { vec_len pivots ≤ 256 },
-    ghost charted: { Charted (vec_len pivots) legs.items },
-    ghost parted: { Parted legs.items },
-    ghost single: { Single legs.items },
-    ghost home_in: { HomeIn (vec_len pivots) home },
+    ghost charted: { Charted legs.items.items (vec_len pivots.items) },
+    ghost parted: { Parted legs.items.items },
+    ghost single: { Single legs.items.items },
+    ghost home_in: { HomeIn (vec_len pivots.items) home },
     ghost idle: { home ≡ None → worked ≡ false },
 }

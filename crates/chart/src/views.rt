@@ -12,21 +12,22 @@ impl<M: Measure> Chart<M> {
     pub fn marks(&self) -> u16
         ensures { result ≡ marks (state self.now) }
     {
-        self.sheet.pivots.len() as u16
+        // The cast loses nothing: there are at most 256.
+        self.sheet.pivots.items.len() as u16
     }
 
     // The legs by number.
     pub fn legs(&self) -> &[Leg]
         ensures { result.now ≡ (state self.now).legs }
     {
-        self.sheet.legs.as_slice()
+        self.sheet.legs.items.as_slice()
     }
 
     // Each mark's marking as a pivot, by number.
     pub fn pivots(&self) -> &[bool]
         ensures { result.now ≡ (state self.now).pivots }
     {
-        self.sheet.pivots.as_slice()
+        self.sheet.pivots.items.as_slice()
     }
 
     pub fn home(&self) -> Option<u16>

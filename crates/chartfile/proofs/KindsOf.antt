@@ -1,13 +1,10 @@
--- Bytes whose first one tells the kind of their frame, and that are no frame of that kind.
-use Rattle.std.proofs.Common.{◌≡◌, ℕ, ◌≤◌, Bool, true, false, List, [], ◌∷◌, ◌++◌, get_or, ap, arith}
-use Rattle.waterway.specs.declared.Leg.{Leg}
+-- The first byte of a frame tells its kind.
+use Rattle.std.proofs.Common.{◌≡◌, ℕ, Bool, true, false, List, get_or, refl, sym, ap, ◌∙◌}
 use Rattle.chartfile.specs.declared.frame.Frame.{Frame}
 use Rattle.chartfile.specs.declared.frame.Frame.TheVariants.{Head, Entry, Pivot, Home, Last}
-use Rattle.chartfile.specs.Frames.{high, low, leg_kind, fields, body, checked}
-
-leg_kinds : (b : Bool) → (2 ≤ leg_kind b) × (leg_kind b ≤ 3)
-leg_kinds true = (omega arith, omega arith)
-leg_kinds false = (omega arith, omega arith)
+use Rattle.chartfile.specs.Frames.{leg_kind, body, checked}
+use Rattle.chartfile.specs.Kinds.{byte_of, leg_kind_of, kind_of}
+use Rattle.chartfile.specs.declared.kind.Kind.{Kind}
 
 abbrev kind : Frame → ℕ
 kind frame = get_or (body frame) 0 0
@@ -19,25 +16,16 @@ same_kind bytes (Pivot mark) is = ap (λ (l : List ℕ). get_or l 0 0) is
 same_kind bytes (Home mark) is = ap (λ (l : List ℕ). get_or l 0 0) is
 same_kind bytes (Last count) is = ap (λ (l : List ℕ). get_or l 0 0) is
 
--- a frame of five bytes is a head, one of nine a leg, and of the three kinds of four bytes the first one tells which
-module _ (bytes : List ℕ) where
-  pub no_head : get_or bytes 0 0 ≡ 1 → ((k n check : ℕ) → bytes ≡ k ∷ 1 ∷ high n ∷ low n ∷ check ∷ [] → ⊥) → (frame : Frame) → bytes ≡ checked (body frame) → ⊥
-  no_head one none (Head marks) is = none _ marks _ is
-  no_head one none (Entry leg) is = let k = same_kind bytes (Entry leg) is in let l = leg_kinds leg.«open» in omega arith
-  no_head one none (Pivot mark) is = let k = same_kind bytes (Pivot mark) is in omega arith
-  no_head one none (Home mark) is = let k = same_kind bytes (Home mark) is in omega arith
-  no_head one none (Last count) is = let k = same_kind bytes (Last count) is in omega arith
+first_byte : (frame : Frame) → kind frame ≡ byte_of (kind_of frame)
+first_byte (Head marks) = refl
+first_byte (Entry leg) = leg_byte leg.«open»
+  where
+    leg_byte : (b : Bool) → leg_kind b ≡ byte_of (leg_kind_of b)
+    leg_byte true = refl
+    leg_byte false = refl
+first_byte (Pivot mark) = refl
+first_byte (Home mark) = refl
+first_byte (Last count) = refl
 
-  pub no_leg : 2 ≤ get_or bytes 0 0 → get_or bytes 0 0 ≤ 3 → ((k check : ℕ) (leg : Leg) → bytes ≡ k ∷ fields leg ++ check ∷ [] → ⊥) → (frame : Frame) → bytes ≡ checked (body frame) → ⊥
-  no_leg two three none (Head marks) is = let k = same_kind bytes (Head marks) is in omega arith
-  no_leg two three none (Entry leg) is = none _ _ leg is
-  no_leg two three none (Pivot mark) is = let k = same_kind bytes (Pivot mark) is in omega arith
-  no_leg two three none (Home mark) is = let k = same_kind bytes (Home mark) is in omega arith
-  no_leg two three none (Last count) is = let k = same_kind bytes (Last count) is in omega arith
-
-  pub no_number : 4 ≤ get_or bytes 0 0 → ((k n check : ℕ) → bytes ≡ k ∷ high n ∷ low n ∷ check ∷ [] → ⊥) → (frame : Frame) → bytes ≡ checked (body frame) → ⊥
-  no_number four none (Head marks) is = let k = same_kind bytes (Head marks) is in omega arith
-  no_number four none (Entry leg) is = let k = same_kind bytes (Entry leg) is in let l = leg_kinds leg.«open» in omega arith
-  no_number four none (Pivot mark) is = none _ mark _ is
-  no_number four none (Home mark) is = none _ mark _ is
-  no_number four none (Last count) is = none _ count _ is
+pub unknown_kind : (bytes : List ℕ) (byte : ℕ) → get_or bytes 0 0 ≡ byte → ((kind : Kind) → byte_of kind ≡ byte → ⊥) → (frame : Frame) → bytes ≡ checked (body frame) → ⊥
+unknown_kind bytes byte first none frame is = none (kind_of frame) (sym (first_byte frame) ∙ sym (same_kind bytes frame is) ∙ first)

@@ -6,6 +6,7 @@ mod KindsOf
 mod Loaded
 pub mod Marking
 mod Places
+mod Puts
 mod Splices
 mod Unframing
 mod Unread

@@ -1,17 +1,17 @@
 -- One more line of a file.
-use Rattle.std.proofs.Common.{◌≡◌, ℕ, suc, ◌+◌, ◌-◌, ◌%◌, ◌<◌, ◌≤◌, List, [], ◌∷◌, ◌++◌, length, take, drop, Some, None, sum, Option, sym, refl, ap, ◌∙◌, subst, append_assoc, append-nil, arith, length-append, length-drop, drop-drop}
-use Rattle.std.proofs.lemmas.List.{take_all, drop_all}
+use Rattle.std.proofs.Common.{◌≡◌, ℕ, suc, ◌+◌, ◌%◌, ◌<◌, ◌≤◌, List, [], ◌∷◌, ◌++◌, length, Some, None, sum, Option, sym, refl, ap, ◌∙◌, subst, append_assoc, append-nil, arith, length-append}
+use Rattle.std.proofs.lemmas.List.{take_all}
 use Rattle.chart.specs.State.{State, blank}
 use Rattle.chartfile.specs.declared.fault.Cause.TheVariants.{BadDigits, BadFrame}
 use Rattle.chartfile.specs.declared.fault.Fault.{Fault}
 use Rattle.chartfile.specs.declared.frame.Frame.{Frame}
-use Rattle.chartfile.specs.declared.place.Place.{Place}
+use Rattle.chartfile.specs.declared.before.Before.{Before}
 use Rattle.chartfile.specs.Hex.{hex}
 use Rattle.chartfile.specs.Frames.{body, checked, line, lines}
 use Rattle.chartfile.specs.Order.{Follows, Complete, latest_of}
 use Rattle.chartfile.specs.Entries.{entry_checks, entered, Passed, Sound, after}
 use Rattle.chartfile.specs.Faults.{FirstLine, BadBytes, BadLine, no_frame, no_digits, missing, Faulty}
-use Rattle.chartfile.specs.Loading.{FrameLine, LoadedTo, Loaded}
+use Rattle.chartfile.specs.Loading.{FrameLine, LoadedTo}
 use Rattle.chartfile.proofs.Unframing.{one_frame}
 
 module _ (n : ℕ) (latest : Option Frame) (s : State) where
@@ -29,6 +29,14 @@ pub lines_append : (fs gs : List Frame) → lines (fs ++ gs) ≡ lines fs ++ lin
 lines_append [] gs = refl
 lines_append (f ∷ fs) gs = ap (λ (rest : List ℕ). line f ++ rest) (lines_append fs gs) ∙ sym (append_assoc (line f) (lines fs) (lines gs))
 
+long_lines : (fs : List Frame) → length fs ≤ length (lines fs)
+long_lines [] = omega arith
+long_lines (f ∷ fs) =
+    let rest = long_lines fs in
+    let both = length-append (line f) (lines fs) in
+    let end = length-append (hex (checked (body f))) (10 ∷ []) in
+    omega arith
+
 pub lines_push : (fs : List Frame) (f : Frame) → lines (fs ++ f ∷ []) ≡ lines fs ++ line f
 lines_push fs f = lines_append fs (f ∷ []) ∙ ap (λ (rest : List ℕ). lines fs ++ rest) (append-nil (line f))
 
@@ -44,50 +52,41 @@ pub sound_append : (n : ℕ) (l : Option Frame) (s : State) (fs gs : List Frame)
 sound_append n l s [] gs k is sound more = let same : k ≡ n = omega arith in rw same at more
 sound_append n l s (f ∷ fs) gs k is sound more = (sound.0, sound.1, sound_append (suc n) (Some f) (entered s f) fs gs k (omega arith) sound.2 more)
 
-module _ {text : List ℕ} {place next : Place} {s after_it : State} (to : LoadedTo text place s) (frame : Frame) (long : ℕ) where
-  pub loaded_more : FrameLine place.count place.latest (drop place.at text) frame long → Passed (entry_checks s frame) → after_it ≡ entered s frame → next.at ≡ place.at + long → next.count ≡ place.count + 1 → next.latest ≡ Some frame → LoadedTo text next after_it
-  loaded_more first passed is at count latest =
-      let before = to.before in
-      let longer = length-append before (frame ∷ []) in
-      let left = length-drop place.at text in
-      let inside = first.inside in
-      let some = first.some in
-      let rest : drop long (drop place.at text) ≡ drop next.at text = drop-drop long place.at text ∙ ap (λ (k : ℕ). drop k text) (omega arith) in
+module _ {text rest : List ℕ} {before : Before} {s : State} (to : LoadedTo text rest before s) where
+  pub loaded_more : {next : List ℕ} {then : Before} {after_it : State} (frame : Frame) → FrameLine before rest frame next → Passed (entry_checks s frame) → after_it ≡ entered s frame → then.count ≡ before.count + 1 → then.latest ≡ Some frame → LoadedTo text next then after_it
+  loaded_more {next} frame first passed is count latest =
+      let frames = to.frames in
+      let longer = length-append frames (frame ∷ []) in
       record {
-        before = before ++ frame ∷ [];
-        split = to.split ∙ ap (λ (r : List ℕ). lines before ++ r) (first.first.is ∙ sym (append_assoc (hex (checked (body frame))) (10 ∷ []) _) ∙ ap (λ (r : List ℕ). line frame ++ r) rest) ∙ sym (append_assoc (lines before) (line frame) (drop next.at text)) ∙ ap (λ (l : List ℕ). l ++ drop next.at text) (sym (lines_push before frame));
-        sound = sound_append 0 None blank before (frame ∷ []) place.count (to.count ∙ omega arith) to.sound (rw (← to.latest, ← to.state) (first.follows, passed, tt));
+        frames = frames ++ frame ∷ [];
+        split = to.split ∙ ap (λ (r : List ℕ). lines frames ++ r) (first.first.is ∙ sym (append_assoc (hex (checked (body frame))) (10 ∷ []) next)) ∙ sym (append_assoc (lines frames) (line frame) next) ∙ ap (λ (l : List ℕ). l ++ next) (sym (lines_push frames frame));
+        sound = sound_append 0 None blank frames (frame ∷ []) before.count (to.count ∙ omega arith) to.sound (rw (← to.latest, ← to.state) (first.follows, passed, tt));
         count = count ∙ omega (arith, to.count);
-        latest = latest ∙ sym (latest_append None before (frame ∷ []));
-        state = is ∙ ap (λ (t : State). entered t frame) to.state ∙ sym (after_append blank before (frame ∷ []));
-        inside = omega (arith, to.inside);
-        short = omega (arith, to.short);
+        latest = latest ∙ sym (latest_append None frames (frame ∷ []));
+        state = is ∙ ap (λ (t : State). entered t frame) to.state ∙ sym (after_append blank frames (frame ∷ []));
       }
 
-pub rest_is : (text : List ℕ) (at : ℕ) → take (length text - at) (drop at text) ≡ drop at text
-rest_is text at = take_all (length text - at) (drop at text) (omega (arith, length-drop at text))
-
--- The end of a file
-
-module _ {text : List ℕ} {place : Place} {s : State} (to : LoadedTo text place s) (end : length text ≤ place.at) where
-  nothing_left : drop place.at text ≡ []
-  nothing_left = drop_all place.at text end
-
-  pub missing_last : (fault : Fault) → (Complete place.latest → ⊥) → fault.line ≡ place.count + 1 → fault.cause ≡ BadFrame → Faulty text fault
-  missing_last fault open_end line cause = record {
-    before = to.before;
-    rest = [];
-    split = to.split ∙ ap (λ (r : List ℕ). lines to.before ++ r) nothing_left;
+  -- the line after those is bad
+  pub bad_line : (fault : Fault) → BadLine before.count before.latest s rest fault.cause → fault.line ≡ before.count + 1 → Faulty text fault
+  bad_line fault bad line = record {
+    before = to.frames;
+    rest = rest;
+    split = to.split;
     sound = to.sound;
     line = line ∙ ap (λ (n : ℕ). n + 1) to.count;
-    bad = rw cause (missing (λ complete. open_end (rw to.latest complete)));
+    bad = rw (← to.count, ← to.latest, ← to.state) bad;
   }
 
-  pub loaded_all : Complete place.latest → Loaded text s
-  loaded_all complete = record {
-    all = to.before;
-    is = to.split ∙ ap (λ (r : List ℕ). lines to.before ++ r) nothing_left ∙ append-nil (lines to.before);
-    sound = to.sound;
-    complete = rw to.latest at complete;
-    state = to.state;
-  }
+  pub missing_last : (fault : Fault) → length rest ≡ 0 → (Complete before.latest → ⊥) → fault.line ≡ before.count + 1 → fault.cause ≡ BadFrame → Faulty text fault
+  missing_last fault end open_end line cause =
+      let none = take_all 0 rest (omega arith) in
+      bad_line fault (rw (cause, ← none) (missing open_end)) line
+
+  -- there are no fewer bytes than frames
+  pub short : before.count + length rest ≤ length text
+  short =
+      let long = ap length to.split in
+      let both = length-append (lines to.frames) rest in
+      let many = long_lines to.frames in
+      let count = to.count in
+      omega arith

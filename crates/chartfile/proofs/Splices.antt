@@ -42,16 +42,6 @@ splice_front [] (x ∷ xs) fits = absurd (omega arith)
 splice_front (b ∷ old) [] fits = refl
 splice_front (b ∷ old) (x ∷ xs) fits = ap (λ (l : List ℕ). x ∷ l) (splice_front old xs (omega arith))
 
--- a byte more at the end of what is written
-pub splice_push : (old new : List ℕ) (at k : ℕ) (xs : List ℕ) (b : ℕ) → new ≡ splice old at xs → at + length xs < length old → k ≡ at + length xs → set new k b ≡ splice old at (xs ++ b ∷ [])
-splice_push old new at k xs b is fits last =
-    let long = length_splice old at xs (omega arith) in
-    let inside : k < length new = omega (arith, ap length is) in
-    splice_one new k b inside ∙ ap (λ (l : List ℕ). splice l k (b ∷ [])) is ∙ splice_more old at k xs (b ∷ []) (omega arith) last
-
-pub splice_two : (old : List ℕ) (at x y : ℕ) → at + 2 ≤ length old → set (set old at x) (at + 1) y ≡ splice old at (x ∷ y ∷ [])
-splice_two old at x y fits = splice_push old (set old at x) at (at + 1) (x ∷ []) y (splice_one old at x (omega arith)) (omega arith) (omega arith)
-
 -- more bytes at the end of what is written
 pub splice_on : (old : List ℕ) (at k : ℕ) (xs ys : List ℕ) {cur new : List ℕ} → cur ≡ splice old at xs → new ≡ splice cur k ys → at + length xs ≤ length old → k ≡ at + length xs → new ≡ splice old at (xs ++ ys)
 splice_on old at k xs ys so_far more fits last = more ∙ ap (λ (l : List ℕ). splice l k ys) so_far ∙ splice_more old at k xs ys fits last

@@ -1,53 +1,37 @@
 -- The file of a possible chart has no fault.
-use Rattle.std.proofs.Common.{◌≡◌, ℕ, suc, ◌+◌, ◌/◌, ◌%◌, ◌<◌, ◌≤◌, Bool, true, false, List, [], ◌∷◌, ◌++◌, map, length, Some, None, sum, Option, sym, refl, ap, ◌∙◌, subst, inl, inr, append_assoc, append-nil, arith, length-append}
+use Rattle.std.proofs.Common.{◌≡◌, ℕ, suc, ◌+◌, ◌%◌, ◌<◌, ◌≤◌, Bool, true, false, List, [], ◌∷◌, ◌++◌, map, length, Some, None, sum, Option, sym, refl, ap, ◌∙◌, subst, inl, inr, append_assoc, append-nil, arith, length-append}
 use lib.ListN.{length-map}
 use lib.Seq.{append_snoc}
 use Rattle.std.specs.List.{AllByRecursion}
 use Rattle.std.proofs.ByRecursion.{All-from_get_or, All-append, All-push, All-map, All-weaker}
 use Rattle.std.proofs.lemmas.List.Sums.{sum_by_push}
-use Rattle.std.proofs.lemmas.Bool.Decides.{nat_tests}
 use Rattle.waterway.specs.declared.Leg.{Leg}
 use Rattle.waterway.specs.Legs.{no_leg, leg_at}
 use Rattle.chart.specs.declared.refusal.Refusal.{Refusal}
 use Rattle.checks.specs.Checks.{Check}
 use Rattle.chart.specs.State.{State, marks, blank}
-use Rattle.chart.specs.Charted.{HomeIn}
+use Rattle.chart.specs.Sound.{HomeIn}
 use Rattle.chart.specs.Possible.{Possible}
 use Rattle.chartfile.specs.declared.fault.Cause.{Cause}
 use Rattle.chartfile.specs.declared.fault.Fault.{Fault}
 use Rattle.chartfile.specs.declared.frame.Frame.{Frame}
 use Rattle.chartfile.specs.declared.frame.Frame.TheVariants.{Head, Entry, Pivot, Home, Last}
-use Rattle.chartfile.specs.Hex.{digit, hex}
+use Rattle.chartfile.specs.Hex.{hex}
 use Rattle.chartfile.specs.Frames.{leg_kind, body, check, checked, line, lines}
 use Rattle.chartfile.specs.Order.{Follows, Complete, latest_of}
 use Rattle.chartfile.specs.Entries.{entry_checks, entered, Passed, RefusedBy, Sound, after}
 use Rattle.chartfile.specs.Faults.{FirstLine, BadBytes, BadLine, Faulty, sum_wrong, no_frame, refused, missing, no_digits, bad_bytes}
 use Rattle.chartfile.specs.File.{marked_from, home_frames, frames, all_frames, file, unworked}
 use Rattle.chartfile.specs.Loading.{Loaded}
-use Rattle.chartfile.proofs.Digits.{digit_high, long_hex}
+use Rattle.chartfile.proofs.Digits.{hex_unique, all_rest}
 use Rattle.chartfile.proofs.Loaded.{latest_append}
 use Rattle.chartfile.proofs.Unframing.{one_frame}
 use Rattle.chartfile.proofs.Whole.{whole_sound, whole_after, whole_complete}
 
 -- A text is read in one way only
 
-digit_unique : (d e : ℕ) → digit d ≡ digit e → d ≡ e
-digit_unique d e same = grind (arith, nat_tests)
-
-pub hex_unique : (bs cs xs ys : List ℕ) → hex bs ++ 10 ∷ xs ≡ hex cs ++ 10 ∷ ys → (bs ≡ cs) × (xs ≡ ys)
-hex_unique [] [] xs ys e = (refl, cc)
-hex_unique [] (c ∷ cs) xs ys e = let first : 10 ≡ digit (c / 16) = cc in let far = digit_high (c / 16) in absurd (omega arith)
-hex_unique (b ∷ bs) [] xs ys e = let first : digit (b / 16) ≡ 10 = cc in let far = digit_high (b / 16) in absurd (omega arith)
-hex_unique (b ∷ bs) (c ∷ cs) xs ys e =
-    let high = digit_unique (b / 16) (c / 16) (cc) in
-    let low = digit_unique (b % 16) (c % 16) (cc) in
-    let same : b ≡ c = omega arith in
-    let rest = hex_unique bs cs xs ys (cc) in
-    let more = rest.0 in
-    (cc, rest.1)
-
 not_empty : (bytes rest : List ℕ) → [] ≡ hex bytes ++ 10 ∷ rest → ⊥
-not_empty bytes rest e = omega (arith, ap length e, long_hex bytes rest)
+not_empty bytes rest e = omega (arith, ap length e, length-append (hex bytes) (10 ∷ rest))
 
 line_then : (f : Frame) (rest : List ℕ) → line f ++ rest ≡ hex (checked (body f)) ++ 10 ∷ rest
 line_then f rest = append_snoc (hex (checked (body f))) 10 rest
@@ -80,10 +64,6 @@ same_lines fs gs e =
 sound_rest : (n : ℕ) (l : Option Frame) (s : State) (fs gs : List Frame) (k : ℕ) → k ≡ n + length fs → Sound n l s (fs ++ gs) → Sound k (latest_of l fs) (after s fs) gs
 sound_rest n l s [] gs k is sound = let same : k ≡ n = omega arith in rw same sound
 sound_rest n l s (f ∷ fs) gs k is sound = sound_rest (suc n) (Some f) (entered s f) fs gs k (omega arith) sound.2
-
-all_rest : {X : Type 0} (P : X → Type 0) (xs ys : List X) → AllByRecursion P (xs ++ ys) → AllByRecursion P ys
-all_rest P [] ys all = all
-all_rest P (x ∷ xs) ys all = all_rest P xs ys all.1
 
 not_both : (checks : List (Check Refusal)) (refusal : Refusal) → Passed checks → RefusedBy checks refusal → ⊥
 not_both [] refusal passed none = none
@@ -151,13 +131,13 @@ home_fits n (Some h) few inside = let on = inside h refl in ((omega arith, tt), 
 
 all_fit : (s : State) → Possible s → AllByRecursion Fits (all_frames s)
 all_fit s p =
-    let few = p.marks_few in
+    let few = p.charted.few in
     let some_legs = p.legs_few in
     let marked = marked_from 0 s.pivots in
     let legs = map Entry s.legs in
     let pivots = map Pivot marked in
     let home = home_fits (marks s) s.home few p.home_in in
-    let leg_fits : (k : ℕ) → k < length s.legs → Fits (Entry (leg_at s.legs k)) = λ k inside. let lies = p.charted k inside in (omega arith, omega arith, omega arith, omega arith) in
+    let leg_fits : (k : ℕ) → k < length s.legs → Fits (Entry (leg_at s.legs k)) = λ k inside. let legal = p.charted.legal k inside in let from_in = p.charted.from_in k inside in let to_in = p.charted.to_in k inside in (omega arith, omega arith, omega arith, omega arith) in
     let legs_fit = All-map Fits Entry s.legs (All-from_get_or (λ (leg : Leg). Fits (Entry leg)) s.legs no_leg leg_fits) in
     let pivots_fit = All-map Fits Pivot marked (All-weaker (λ (mark : ℕ). mark < marks s) (λ mark. mark < 65536) (λ mark h. omega arith) marked (marked_below 0 (marks s) s.pivots (omega arith))) in
     let frames_fit : AllByRecursion Fits (frames s) = (omega arith, All-append Fits legs (pivots ++ home_frames s.home) legs_fit (All-append Fits pivots (home_frames s.home) pivots_fit home.0)) in

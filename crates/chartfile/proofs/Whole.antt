@@ -8,7 +8,7 @@ use Rattle.waterway.specs.declared.Leg.{Leg}
 use Rattle.waterway.specs.Legs.{no_leg, leg_at, Ends, Joined}
 use Rattle.chart.specs.State.{State, marks, blank}
 use Rattle.chart.specs.Calls.{with_mark, entering}
-use Rattle.chart.specs.Charted.{Lies, Single, HomeIn}
+use Rattle.chart.specs.Sound.{Single, HomeIn}
 use Rattle.chart.specs.Possible.{Possible}
 use Rattle.chartfile.specs.declared.frame.Frame.{Frame}
 use Rattle.chartfile.specs.declared.frame.Frame.TheVariants.{Head, Entry, Pivot, Home, Last}
@@ -81,8 +81,9 @@ module _ (s : State) (p : Possible s) (pivots : List Bool) (long : length pivots
       let k = length pre in
       let within = inside s.legs pre leg rest is in
       let this = here s.legs pre leg rest is in
-      let lies : Lies (marks s) leg = rw this at (p.charted k within) in
-      let legal : Legal leg.length leg.locks = record { some = lies.0; far = lies.1; few = lies.2 } in
+      let legal : Legal leg.length leg.locks = rw this at (p.charted.legal k within) in
+      let from_in = rw this at (p.charted.from_in k within) in
+      let to_in = rw this at (p.charted.to_in k within) in
       let few = p.legs_few in
       (λ off. elim off [ inl a ↦ omega arith | inr b ↦ omega arith ], (rw this at (p.parted k within), (λ no. no legal, (λ full. omega arith, (not_joined s.legs pre leg rest is p.single, tt)))))
 
@@ -142,7 +143,7 @@ module _ (s : State) where
   frames_taken : Possible s → Takes 0 None blank (frames s) (unworked s)
   frames_taken p =
       let m = marks s in
-      let few = p.marks_few in
+      let few = p.charted.few in
       let bare = replicate m false in
       let legs = legs_taken s p bare (length-replicate m false) [] s.legs refl 1 (Some (Head m)) (λ k leg. (inl (omega arith), tt)) in
       let pivots = pivots_taken s.legs s.pivots [] s.pivots 0 refl refl (1 + length leg_frames) after_legs (λ k mark later. follows k after_legs (Pivot mark) below_pivots tt) in

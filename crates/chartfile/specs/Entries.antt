@@ -42,8 +42,8 @@ RefusedBy (check ∷ checks) refusal =
     (check.condition × (refusal ≡ check.refusal)) ⊎ ((check.condition → ⊥) × RefusedBy checks refusal)
 
 -- r and after are what the calls of a frame's entry bring: all are accepted, or one is refused
-abbrev pub Enters : State → Frame → Result (Unit {0}) Refusal → State → Type 0
-Enters s frame r after = MatchResult r (λ _. Passed (entry_checks s frame) × (after ≡ entered s frame)) (RefusedBy (entry_checks s frame))
+abbrev pub Enters : Frame → Result (Unit {0}) Refusal → State → State → Type 0
+Enters frame r s after = MatchResult r (λ _. Passed (entry_checks s frame) × (after ≡ entered s frame)) (RefusedBy (entry_checks s frame))
 
 -- after n frames, of which one is the latest, on a chart in the state s: each frame is in order, and the chart takes its entry
 abbrev pub Sound : ℕ → Option Frame → State → List Frame → Type 0

@@ -1,5 +1,5 @@
 -- Bytes in upper-case hexadecimal.
-use Rattle.std.specs.Prelude.{◌≡◌, ℕ, ◌+◌, ◌/◌, ◌%◌, ◌<◌, cond, List, [], ◌∷◌, length, nat_lt, slice_index_or}
+use Rattle.std.specs.Prelude.{◌≡◌, ℕ, ◌+◌, ◌/◌, ◌%◌, cond, List, [], ◌∷◌, nat_lt}
 
 -- the digit of a number below 16
 abbrev pub digit : ℕ → ℕ
@@ -10,14 +10,6 @@ abbrev pub hex : List ℕ → List ℕ
 hex [] = []
 hex (b ∷ bs) = digit (b / 16) ∷ digit (b % 16) ∷ hex bs
 
--- the digits of the byte b stand at a place of a text
-pub record Spelled (text : List ℕ) (at b : ℕ) : Type 0 where
-  pub byte : b < 256
-  pub inside : at + 1 < length text
-  pub high : slice_index_or text at 0 ≡ digit (b / 16)
-  pub low : slice_index_or text (at + 1) 0 ≡ digit (b % 16)
-
--- a line ends at a place of a text
-pub record Ended (text : List ℕ) (at : ℕ) : Type 0 where
-  pub inside : at < length text
-  pub byte : slice_index_or text at 0 ≡ 10
+-- two digits spell the byte b
+abbrev pub Spells : ℕ → ℕ → ℕ → Type 0
+Spells high low b = (high ≡ digit (b / 16)) × (low ≡ digit (b % 16))

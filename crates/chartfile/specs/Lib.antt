@@ -1,5 +1,6 @@
 pub mod Hex
 pub mod Frames
+pub mod Kinds
 pub mod Reading
 pub mod File
 pub mod Order

@@ -1,34 +1,30 @@
 -- Loading a file onto a chart.
-use Rattle.std.specs.Prelude.{◌≡◌, ℕ, ◌<◌, ◌≤◌, true, false, List, ◌++◌, length, drop, is_ok, None, Err, Option, Result, MatchResult}
+use Rattle.std.specs.Prelude.{◌≡◌, ℕ, ◌<◌, true, false, List, ◌++◌, length, is_ok, None, Err, Result, MatchResult}
 use Rattle.chart.specs.Possible.{Possible}
 use Rattle.chart.specs.State.{State, marks, blank}
 use Rattle.chartfile.specs.declared.fault.Cause.TheVariants.{HasMarks}
 use Rattle.chartfile.specs.declared.fault.Fault.{Fault}
 use Rattle.chartfile.specs.declared.frame.Frame.{Frame}
-use Rattle.chartfile.specs.declared.place.Place.{Place}
+use Rattle.chartfile.specs.declared.before.Before.{Before}
 use Rattle.chartfile.specs.Frames.{body, checked, lines}
 use Rattle.chartfile.specs.File.{file, unworked}
 use Rattle.chartfile.specs.Order.{Follows, Complete, latest_of}
 use Rattle.chartfile.specs.Entries.{Sound, after}
 use Rattle.chartfile.specs.Faults.{FirstLine, Faulty}
 
--- the first line of a text, so long, is a frame that may follow
-pub record FrameLine (n : ℕ) (latest : Option Frame) (text : List ℕ) (frame : Frame) (long : ℕ) : Type 0 where
-  pub first : FirstLine text (checked (body frame)) (drop long text)
-  pub inside : long ≤ length text
-  pub some : 0 < long
-  pub follows : Follows n latest frame
+-- the first line of a text is a frame that may follow, and this is the rest
+pub record FrameLine (before : Before) (text : List ℕ) (frame : Frame) (rest : List ℕ) : Type 0 where
+  pub first : FirstLine text (checked (body frame)) rest
+  pub follows : Follows before.count before.latest frame
 
--- the sound frames before a place of a text, and the chart that they leave
-pub record LoadedTo (text : List ℕ) (place : Place) (s : State) : Type 0 where
-  pub before : List Frame
-  pub split : text ≡ lines before ++ drop place.at text
-  pub sound : Sound 0 None blank before
-  pub count : place.count ≡ length before
-  pub latest : place.latest ≡ latest_of None before
-  pub state : s ≡ after blank before
-  pub inside : place.at ≤ length text
-  pub short : place.count ≤ place.at
+-- the sound frames before the rest of a text, and the chart that they leave
+pub record LoadedTo (text rest : List ℕ) (before : Before) (s : State) : Type 0 where
+  pub frames : List Frame
+  pub split : text ≡ lines frames ++ rest
+  pub sound : Sound 0 None blank frames
+  pub count : before.count ≡ length frames
+  pub latest : before.latest ≡ latest_of None frames
+  pub state : s ≡ after blank frames
 
 -- a text is sound frames to its end, the last one among them, and they leave this chart
 pub record Loaded (text : List ℕ) (s : State) : Type 0 where

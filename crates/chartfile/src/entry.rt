@@ -1,6 +1,5 @@
 // A frame's entry on a chart.
-ghost use Rattle.std.specs.Prelude.{◌≡◌};
-ghost use Rattle.chart.specs.Shown.{state};
+ghost use Rattle.chart.specs.Shown.{Changes};
 ghost use Rattle.chartfile.specs.Entries.{Enters};
 
 use crate::frame::Frame;
@@ -10,8 +9,7 @@ use waterway::Leg;
 
 // Makes the calls of a frame's entry. Where one is refused, those before it stand.
 pub fn enter<M: Measure>(chart: &mut Chart<M>, frame: Frame) -> Result<(), Refusal>
-    ensures enters { Enters (state chart.old) frame result (state chart.new) }
-    ensures measure { chart.new.measure ≡ chart.old.measure }
+    ensures { Changes (Enters frame result) chart.old chart.new }
 {
     match frame {
         Frame::Head(marks) => add_marks(chart, marks),
@@ -23,8 +21,7 @@ pub fn enter<M: Measure>(chart: &mut Chart<M>, frame: Frame) -> Result<(), Refus
 }
 
 fn add_marks<M: Measure>(chart: &mut Chart<M>, marks: u16) -> Result<(), Refusal>
-    ensures enters { Enters (state chart.old) (Frame.Head marks) result (state chart.new) }
-    ensures measure { chart.new.measure ≡ chart.old.measure }
+    ensures { Changes (Enters (Frame.Head marks) result) chart.old chart.new }
 {
     for _added in 0..marks {
         chart.add_mark()?;
@@ -33,8 +30,7 @@ fn add_marks<M: Measure>(chart: &mut Chart<M>, marks: u16) -> Result<(), Refusal
 }
 
 fn enter_leg<M: Measure>(chart: &mut Chart<M>, leg: Leg) -> Result<(), Refusal>
-    ensures enters { Enters (state chart.old) (Frame.Entry leg) result (state chart.new) }
-    ensures measure { chart.new.measure ≡ chart.old.measure }
+    ensures { Changes (Enters (Frame.Entry leg) result) chart.old chart.new }
 {
     let number = chart.enter_leg(leg.from, leg.to, leg.length, leg.locks)?;
     if !leg.open {

@@ -1,17 +1,18 @@
 // What is wrong with a chart file, or with the buffer that one is written to.
 ghost use Rattle.std.specs.Prelude.{◌≡◌};
 ghost use Rattle.chartfile.specs.Faults.{number_of};
+ghost use Rattle.chartfile.specs.declared.fault.Cause.TheVariants.{BadEntry};
 
 use chart::Refusal;
 
 // The line, counted from 1, at which loading ended, or 0 where no line is at fault.
-#[derive(Clone, Copy)]
+#[derive(Clone, Copy, Debug, PartialEq, Eq)]
 pub struct Fault {
     pub line: usize,
     pub cause: Cause,
 }
 
-#[derive(Clone, Copy)]
+#[derive(Clone, Copy, Debug, PartialEq, Eq)]
 pub enum Cause {
     // The chart has marks.
     HasMarks,
@@ -23,6 +24,14 @@ pub enum Cause {
     BadFrame,
     // The chart refused an entry.
     BadEntry(Refusal),
+}
+
+impl From<Refusal> for Cause {
+    ghost from_gives = { λ refusal cause. cause ≡ BadEntry refusal };
+
+    fn from(refusal: Refusal) -> Cause {
+        Cause::BadEntry(refusal)
+    }
 }
 
 impl Cause {
@@ -40,7 +49,7 @@ impl Cause {
 }
 
 // The buffer is shorter than the file.
-#[derive(Clone, Copy)]
+#[derive(Clone, Copy, Debug, PartialEq, Eq)]
 pub struct ShortBuffer;
 
 impl ShortBuffer {

@@ -1,8 +1,10 @@
 // The frames of a chart file, and the bytes that they stand for.
 ghost use Rattle.std.specs.Prelude.{◌≡◌, ℕ, ◌%◌, ◌<◌, [], ◌∷◌, ◌++◌, sum, MatchOption, ◌≢◌};
 ghost use Rattle.chartfile.specs.Frames.{high, low, fields};
+ghost use Rattle.chartfile.specs.Kinds.{kind_of};
 ghost use Rattle.chartfile.specs.Reading.{StandsFor};
 
+use crate::kind::Kind;
 use waterway::Leg;
 
 #[derive(Clone, Copy)]
@@ -16,22 +18,25 @@ pub enum Frame {
     Last(u16),
 }
 
-// The kinds of frames, each the first byte of its frame.
-pub const HEAD: u8 = 0x01;
-
-pub const OPEN_LEG: u8 = 0x02;
-
-pub const CLOSED_LEG: u8 = 0x03;
-
-pub const PIVOT: u8 = 0x04;
-
-pub const HOME: u8 = 0x05;
-
-pub const LAST: u8 = 0x7F;
-
+// The version of a file, which its first frame tells.
 pub const VERSION: u8 = 0x01;
 
-// What the bytes of a frame add up to, modulo 256: 0 in a sound frame.
+impl Frame {
+    pub fn kind(self) -> Kind
+        ensures { result ≡ kind_of self }
+    {
+        match self {
+            Frame::Head(_) => Kind::Head,
+            Frame::Entry(leg) if leg.open => Kind::OpenLeg,
+            Frame::Entry(_) => Kind::ClosedLeg,
+            Frame::Pivot(_) => Kind::Pivot,
+            Frame::Home(_) => Kind::Home,
+            Frame::Last(_) => Kind::Last,
+        }
+    }
+}
+
+// What the bytes of a frame add up to, modulo 256: 0 in a sound frame. The form is fixed: one loop sums them, for checking and for writing.
 pub fn sum_of(bytes: &[u8]) -> u8
     ensures { result ≡ sum bytes.now % 256 }
 {
@@ -46,14 +51,13 @@ pub fn sum_of(bytes: &[u8]) -> u8
 pub fn frame_of(bytes: &[u8]) -> Option<Frame>
     ensures { StandsFor bytes.now result }
 {
-    match *bytes.first()? {
-        HEAD => Some(Frame::Head(marks_of(bytes)?)),
-        OPEN_LEG => Some(Frame::Entry(leg_of(bytes, true)?)),
-        CLOSED_LEG => Some(Frame::Entry(leg_of(bytes, false)?)),
-        PIVOT => Some(Frame::Pivot(number_of(bytes)?)),
-        HOME => Some(Frame::Home(number_of(bytes)?)),
-        LAST => Some(Frame::Last(number_of(bytes)?)),
-        _ => None,
+    match Kind::try_from(*bytes.first()?).ok()? {
+        Kind::Head => Some(Frame::Head(marks_of(bytes)?)),
+        Kind::OpenLeg => Some(Frame::Entry(leg_of(bytes, true)?)),
+        Kind::ClosedLeg => Some(Frame::Entry(leg_of(bytes, false)?)),
+        Kind::Pivot => Some(Frame::Pivot(number_of(bytes)?)),
+        Kind::Home => Some(Frame::Home(number_of(bytes)?)),
+        Kind::Last => Some(Frame::Last(number_of(bytes)?)),
     }
 }
 

@@ -1,7 +1,9 @@
 // Bytes in upper-case hexadecimal.
-ghost use Rattle.std.specs.Prelude.{◌≡◌, ℕ, ◌+◌, ◌*◌, ◌<◌, ◌≤◌, List, take, drop, Decides, MatchOption, ◌≢◌};
-ghost use Rattle.chartfile.specs.Hex.{digit, Spelled, Ended};
+ghost use Rattle.std.specs.Prelude.{◌≡◌, ℕ, ◌<◌, List, MatchOption, ◌≢◌};
+ghost use Rattle.chartfile.specs.Hex.{digit, Spells};
 ghost use Rattle.chartfile.specs.Faults.{FirstLine};
+
+use arrayvec::ArrayVec;
 
 // A line has at most so many bytes.
 pub const MOST_BYTES: usize = 32;
@@ -9,7 +11,7 @@ pub const MOST_BYTES: usize = 32;
 // What ends a line.
 pub const LINE_END: u8 = 0x0A;
 
-// The number that a digit writes.
+// The number that a digit writes. A `char`'s `to_digit` would take lower case too.
 fn value_of(symbol: u8) -> Option<u8>
     ensures { MatchOption result ((d : ℕ) → d < 16 → symbol ≢ digit d) (λ d. (d < 16) × (symbol ≡ digit d)) }
 {
@@ -20,7 +22,7 @@ fn value_of(symbol: u8) -> Option<u8>
     }
 }
 
-// The digit of a number below 16.
+// The digit of a number below 16. `char::from_digit` would give lower case.
 pub fn digit_of(value: u8) -> u8
     requires { value < 16 }
     ensures { result ≡ digit value }
@@ -32,33 +34,26 @@ pub fn digit_of(value: u8) -> u8
     }
 }
 
-// The byte that two digits write at a place.
-fn byte_at(text: &[u8], at: usize) -> Option<u8>
-    ensures { MatchOption result ((b : ℕ) → Spelled text.now at b → ⊥) (λ b. Spelled text.now at b) }
+// The byte that two digits write.
+fn byte_of(high: u8, low: u8) -> Option<u8>
+    ensures { MatchOption result ((b : ℕ) → b < 256 → Spells high low b → ⊥) (λ b. Spells high low b) }
 {
-    let high = value_of(*text.get(at)?)?;
-    let low = value_of(*text.get(at.checked_add(1)?)?)?;
-    Some(high * 16 + low)
+    Some(value_of(high)? * 16 + value_of(low)?)
 }
 
-// Decodes the first line of a text into the first places of a list, and says how many bytes it has.
-pub fn decode(text: &[u8], bytes: &mut [u8; MOST_BYTES]) -> Option<usize>
-    ensures { MatchOption result ((bs rest : List ℕ) → FirstLine text.now bs rest → ⊥) (λ n. (n ≤ 32) × FirstLine text.now (take n bytes.new) (drop (2 * n + 1) text.now)) }
+// Decodes the first line of a text, and gives the rest.
+pub fn decode(text: &[u8]) -> Option<(ArrayVec<u8, MOST_BYTES>, &[u8])>
+    ensures { MatchOption result ((bs rest : List ℕ) → FirstLine text.now bs rest → ⊥) (λ p. FirstLine text.now p.0.items p.1.now) }
 {
-    let mut count = 0;
-    while count < MOST_BYTES && !ends_at(text, 2 * count) {
-        bytes[count] = byte_at(text, 2 * count)?;
-        count += 1;
+    let mut bytes = ArrayVec::new();
+    let mut rest = text;
+    loop {
+        let (high, more) = rest.split_first()?;
+        if *high == LINE_END {
+            return (!bytes.is_empty()).then_some((bytes, more));
+        }
+        let (low, after) = more.split_first()?;
+        bytes.try_push(byte_of(*high, *low)?).ok()?;
+        rest = after;
     }
-    if count > 0 && ends_at(text, 2 * count) {
-        Some(count)
-    } else {
-        None
-    }
-}
-
-fn ends_at(text: &[u8], at: usize) -> bool
-    ensures { Decides result (Ended text.now at) }
-{
-    text.get(at) == Some(&LINE_END)
 }

@@ -1,13 +1,13 @@
 // Chart files: loaded whole or refused, and written back byte for byte.
 #![tactic(auto)]
 
+mod before;
 mod entry;
 pub mod fault;
 pub mod frame;
 mod hex;
+pub mod kind;
 pub mod loading;
-mod order;
-pub mod place;
 pub mod writing;
 
 pub use fault::{Cause, Fault, ShortBuffer};

@@ -1,23 +1,22 @@
 // Loading a file onto a chart.
-ghost use Rattle.std.specs.Prelude.{◌≡◌, ◌<◌, length, drop, MatchResult};
-ghost use Rattle.chart.specs.Shown.{state};
+ghost use Rattle.std.specs.Prelude.{◌≡◌, ◌<◌, length, MatchResult};
+ghost use Rattle.chart.specs.Shown.{state, Changes};
 ghost use Rattle.chart.specs.State.{State, blank};
+ghost use Rattle.chartfile.specs.Entries.{entry_checks, entered, Passed};
 ghost use Rattle.chartfile.specs.Faults.{BadLine, Faulty};
-ghost use Rattle.chartfile.specs.Loading.{FrameLine, LoadedTo, Loaded, Loads};
+ghost use Rattle.chartfile.specs.Loading.{FrameLine, Loaded, Loads};
 
+use crate::before::Before;
 use crate::entry::enter;
 use crate::fault::{Cause, Fault};
 use crate::frame::{Frame, frame_of, sum_of};
-use crate::hex::{MOST_BYTES, decode};
-use crate::order::{follows, is_complete};
-use crate::place::Place;
+use crate::hex::decode;
 use chart::Chart;
 use measure::Measure;
 
 // Loads a file onto a chart without marks. Where the file has a fault, the chart is blank.
 pub fn load<M: Measure>(chart: &mut Chart<M>, text: &[u8]) -> Result<(), Fault>
-    ensures loads { Loads text.now (state chart.old) result (state chart.new) }
-    ensures measure { chart.new.measure ≡ chart.old.measure }
+    ensures { Changes (λ before after. Loads text.now before result after) chart.old chart.new }
 {
     if chart.marks() > 0 {
         return Err(Fault {
@@ -32,69 +31,57 @@ pub fn load<M: Measure>(chart: &mut Chart<M>, text: &[u8]) -> Result<(), Fault>
     loaded
 }
 
-// The frame of the first line, after `count` others, and how long that line is.
-fn first_frame(text: &[u8], count: usize, latest: Option<Frame>) -> Result<(Frame, usize), Cause>
+// The frame of the first line, and the lines after it. The form is fixed: `let .. else` takes a decoded line apart.
+fn first_frame(text: &[u8], before: Before) -> Result<(Frame, &[u8]), Cause>
     requires { 0 < length text.now }
-    ensures { MatchResult result (λ p. FrameLine count latest text.now p.0 p.1) (λ cause. (s : State) → BadLine count latest s text.now cause) }
+    ensures { MatchResult result (λ p. FrameLine before text.now p.0 p.1.now) (λ cause. (s : State) → BadLine before.count before.latest s text.now cause) }
 {
-    let mut bytes = [0; MOST_BYTES];
-    let Some(many) = decode(text, &mut bytes) else {
+    let Some((bytes, rest)) = decode(text) else {
         return Err(Cause::BadDigits);
     };
-    let bytes = &bytes[0..many];
-    if sum_of(bytes) != 0 {
+    if sum_of(bytes.as_slice()) != 0 {
         return Err(Cause::BadSum);
     }
-    let Some(frame) = frame_of(bytes) else {
-        return Err(Cause::BadFrame);
-    };
-    if !follows(count, latest, frame) {
+    let frame = frame_of(bytes.as_slice()).ok_or(Cause::BadFrame)?;
+    if !before.allows(frame) {
         return Err(Cause::BadFrame);
     }
-    Ok((frame, 2 * many + 1))
+    Ok((frame, rest))
 }
 
-// Loads the line at a place, and goes on to the next.
-fn load_line<M: Measure>(chart: &mut Chart<M>, text: &[u8], place: Place) -> Result<Place, Cause>
-    requires { (place.at < length text.now) × (LoadedTo text.now place (state chart.old)) }
-    ensures loads { MatchResult result (λ next. LoadedTo text.now next (state chart.new) × (place.at < next.at)) (BadLine place.count place.latest (state chart.old) (drop place.at text.now)) }
-    ensures measure { chart.new.measure ≡ chart.old.measure }
+// Loads the first line, and gives its frame and the lines after it.
+fn load_line<'a, M: Measure>(
+    chart: &mut Chart<M>,
+    text: &'a [u8],
+    before: Before,
+) -> Result<(Frame, &'a [u8]), Cause>
+    requires { 0 < length text.now }
+    ensures { Changes (λ old new. MatchResult result (λ p. FrameLine before text.now p.0 p.1.now × Passed (entry_checks old p.0) × (new ≡ entered old p.0)) (BadLine before.count before.latest old text.now)) chart.old chart.new }
 {
-    let at = place.at;
-    let (frame, long) = first_frame(&text[at..], place.count, place.latest)?;
-    match enter(chart, frame) {
-        Ok(()) => Ok(Place {
-            at: at + long,
-            count: place.count + 1,
-            latest: Some(frame),
-        }),
-        Err(refusal) => Err(Cause::BadEntry(refusal)),
-    }
+    let (frame, rest) = first_frame(text, before)?;
+    enter(chart, frame)?;
+    Ok((frame, rest))
 }
 
 // Loads all lines onto a blank chart.
 fn load_lines<M: Measure>(chart: &mut Chart<M>, text: &[u8]) -> Result<(), Fault>
     requires { state chart.old ≡ blank }
-    ensures loads { MatchResult result (λ _. Loaded text.now (state chart.new)) (Faulty text.now) }
-    ensures measure { chart.new.measure ≡ chart.old.measure }
+    ensures { Changes (λ _ new. MatchResult result (λ _. Loaded text.now new) (Faulty text.now)) chart.old chart.new }
 {
-    let mut place = Place {
-        at: 0,
-        count: 0,
-        latest: None,
-    };
-    while place.at < text.len() {
-        match load_line(chart, text, place) {
-            Ok(next) => place = next,
-            Err(cause) => return Err(Fault {
-                line: place.count + 1,
-                cause,
-            }),
-        }
+    let mut before = Before::default();
+    let mut rest = text;
+    while !rest.is_empty() {
+        let line = before.count + 1;
+        let (frame, after) = load_line(chart, rest, before).map_err(|cause| Fault { line, cause })?;
+        before = Before {
+            count: line,
+            latest: Some(frame),
+        };
+        rest = after;
     }
-    if !is_complete(place.latest) {
+    if !before.is_complete() {
         return Err(Fault {
-            line: place.count + 1,
+            line: before.count + 1,
             cause: Cause::BadFrame,
         });
     }

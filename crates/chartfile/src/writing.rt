@@ -1,14 +1,16 @@
 // Writing a chart's file into a buffer.
 ghost use Rattle.std.specs.Prelude.{◌≡◌, ◌+◌, ◌*◌, ◌<◌, ◌≤◌, [], ◌∷◌, ◌++◌, map, length};
 ghost use Rattle.chartfile.specs.Hex.{hex};
-ghost use Rattle.chartfile.specs.Frames.{high, low, leg_kind, checked, line, lines};
+ghost use Rattle.chartfile.specs.Frames.{high, low, checked, line, lines};
+ghost use Rattle.chartfile.specs.Kinds.{byte_of};
 ghost use Rattle.chartfile.specs.File.{marked_from, home_frames};
 ghost use Rattle.chart.specs.Shown.{state};
-ghost use Rattle.chartfile.specs.Writing.{splice, Writes};
+ghost use Rattle.chartfile.specs.Writing.{Room, Puts, Writes};
 
 use crate::fault::ShortBuffer;
-use crate::frame::{CLOSED_LEG, Frame, HEAD, HOME, LAST, OPEN_LEG, PIVOT, VERSION, sum_of};
+use crate::frame::{Frame, VERSION, sum_of};
 use crate::hex::{LINE_END, digit_of};
+use crate::kind::Kind;
 use chart::Chart;
 use measure::Measure;
 use waterway::Leg;
@@ -24,76 +26,15 @@ pub fn write<M: Measure>(chart: &Chart<M>, buffer: &mut [u8]) -> Result<usize, S
     if buffer.len() < 20 + 19 * legs.len() + 9 * marked + 9 * homes {
         return Err(ShortBuffer);
     }
-    let at = put_frame(buffer, 0, Frame::Head(chart.marks()));
-    let at = put_legs(buffer, at, legs);
-    let at = put_pivots(buffer, at, pivots);
-    let at = put_home(buffer, at, chart.home());
+    let mut writer = Writer { buffer, at: 0 };
+    writer.put_frame(Frame::Head(chart.marks()));
+    writer.put_legs(legs);
+    writer.put_pivots(pivots);
+    writer.put_home(chart.home());
     let count = 1 + legs.len() + marked + homes;
-    Ok(put_frame(buffer, at, Frame::Last(count as u16)))
-}
-
-fn put_home(buffer: &mut [u8], at: usize, home: Option<u16>) -> usize
-    requires { at + 9 * length (home_frames home) ≤ length buffer.old }
-    ensures place { result ≡ at + 9 * length (home_frames home) }
-    ensures writes { buffer.new ≡ splice buffer.old at (lines (home_frames home)) }
-{
-    match home {
-        Some(mark) => put_frame(buffer, at, Frame::Home(mark)),
-        None => at,
-    }
-}
-
-// Writes a byte's two digits at a place.
-fn put_byte(buffer: &mut [u8], at: usize, byte: u8)
-    requires { at + 2 ≤ length buffer.old }
-    ensures { buffer.new ≡ splice buffer.old at (hex (byte ∷ [])) }
-{
-    buffer[at] = digit_of(byte / 16);
-    buffer[at + 1] = digit_of(byte % 16);
-}
-
-// Writes bytes, the one that makes them add up, and the line's end; says where the next line starts.
-fn put_line(buffer: &mut [u8], at: usize, body: &[u8]) -> usize
-    requires { at + (2 * length body.now + 3) ≤ length buffer.old }
-    ensures place { result ≡ at + (2 * length body.now + 3) }
-    ensures writes { buffer.new ≡ splice buffer.old at (hex (checked body.now) ++ 10 ∷ []) }
-{
-    let mut next = at;
-    for byte in body {
-        put_byte(buffer, next, *byte);
-        next += 2;
-    }
-    put_byte(buffer, next, 0u8.wrapping_sub(sum_of(body)));
-    buffer[next + 2] = LINE_END;
-    next + 3
-}
-
-// Writes the legs' lines, and says where the next line starts.
-fn put_legs(buffer: &mut [u8], at: usize, legs: &[Leg]) -> usize
-    requires { at + 19 * length legs.now ≤ length buffer.old }
-    ensures place { result ≡ at + 19 * length legs.now }
-    ensures writes { buffer.new ≡ splice buffer.old at (lines (map Frame.Entry legs.now)) }
-{
-    let mut next = at;
-    for leg in legs {
-        next = put_frame(buffer, next, Frame::Entry(*leg));
-    }
-    next
-}
-
-// Writes the marked pivots' lines, and says where the next line starts.
-fn put_pivots(buffer: &mut [u8], at: usize, pivots: &[bool]) -> usize
-    requires { (length pivots.now ≤ 256) × (at + 9 * length (marked_from 0 pivots.now) ≤ length buffer.old) }
-    ensures place { result ≡ at + 9 * length (marked_from 0 pivots.now) }
-    ensures writes { buffer.new ≡ splice buffer.old at (lines (map Frame.Pivot (marked_from 0 pivots.now))) }
-{
-    let mut next = at;
-    for mark in 0..pivots.len() {
-        if pivots[mark] {
-            next = put_frame(buffer, next, Frame::Pivot(mark as u16));
-        }
-    }
-    next
+    // The cast loses nothing: there are at most 1,282.
+    writer.put_frame(Frame::Last(count as u16));
+    Ok(writer.at)
 }
 
 // How many marks are marked as pivots.
@@ -101,62 +42,85 @@ fn count_marked(pivots: &[bool]) -> usize
     ensures value { result ≡ length (marked_from 0 pivots.now) }
     ensures few { result ≤ length pivots.now }
 {
-    let mut count = 0;
-    for mark in 0..pivots.len() {
-        if pivots[mark] {
-            count += 1;
+    pivots.iter().filter(|marked| **marked).count()
+}
+
+// A buffer, and the place in it that is written next.
+#[derive(Drop)]
+struct Writer<'a> {
+    buffer: &'a mut [u8],
+    at: usize,
+}
+
+impl Writer<'_> {
+    fn put(&mut self, byte: u8)
+        requires { Room (byte ∷ []) self.old }
+        ensures { Puts (byte ∷ []) self.old self.new }
+    {
+        self.buffer[self.at] = byte;
+        self.at += 1;
+    }
+
+    // Writes a byte's two digits.
+    fn put_digits(&mut self, byte: u8)
+        requires { Room (hex (byte ∷ [])) self.old }
+        ensures { Puts (hex (byte ∷ [])) self.old self.new }
+    {
+        self.put(digit_of(byte / 16));
+        self.put(digit_of(byte % 16));
+    }
+
+    // Writes bytes, the one that makes them add up, and the line's end.
+    fn put_line(&mut self, body: &[u8])
+        requires { Room (hex (checked body.now) ++ 10 ∷ []) self.old }
+        ensures { Puts (hex (checked body.now) ++ 10 ∷ []) self.old self.new }
+    {
+        for byte in body {
+            self.put_digits(*byte);
+        }
+        self.put_digits(0u8.wrapping_sub(sum_of(body)));
+        self.put(LINE_END);
+    }
+
+    fn put_frame(&mut self, frame: Frame)
+        requires { Room (line frame) self.old }
+        ensures { Puts (line frame) self.old self.new }
+    {
+        match frame {
+            Frame::Head(marks) => self.put_head(marks),
+            Frame::Entry(leg) => self.put_leg(leg),
+            Frame::Pivot(mark) => self.put_number(Kind::Pivot, mark),
+            Frame::Home(mark) => self.put_number(Kind::Home, mark),
+            Frame::Last(count) => self.put_number(Kind::Last, count),
         }
     }
-    count
-}
 
-// Writes a frame's line at a place, and says where the next line starts.
-fn put_frame(buffer: &mut [u8], at: usize, frame: Frame) -> usize
-    requires { at + length (line frame) ≤ length buffer.old }
-    ensures place { result ≡ at + length (line frame) }
-    ensures writes { buffer.new ≡ splice buffer.old at (line frame) }
-{
-    match frame {
-        Frame::Head(marks) => put_head(buffer, at, marks),
-        Frame::Entry(leg) => put_leg(buffer, at, leg),
-        Frame::Pivot(mark) => put_number(buffer, at, PIVOT, mark),
-        Frame::Home(mark) => put_number(buffer, at, HOME, mark),
-        Frame::Last(count) => put_number(buffer, at, LAST, count),
+    fn put_head(&mut self, marks: u16)
+        requires { Room (line (Frame.Head marks)) self.old }
+        ensures { Puts (line (Frame.Head marks)) self.old self.new }
+    {
+        let [high, low] = bytes_of(marks);
+        self.put_line(&[u8::from(Kind::Head), VERSION, high, low]);
     }
-}
 
-fn put_head(buffer: &mut [u8], at: usize, marks: u16) -> usize
-    requires { at + 11 ≤ length buffer.old }
-    ensures place { result ≡ at + 11 }
-    ensures writes { buffer.new ≡ splice buffer.old at (line (Frame.Head marks)) }
-{
-    let [high, low] = bytes_of(marks);
-    put_line(buffer, at, &[HEAD, VERSION, high, low])
-}
+    fn put_number(&mut self, kind: Kind, number: u16)
+        requires { Room (hex (checked (byte_of kind ∷ high number ∷ low number ∷ [])) ++ 10 ∷ []) self.old }
+        ensures { Puts (hex (checked (byte_of kind ∷ high number ∷ low number ∷ [])) ++ 10 ∷ []) self.old self.new }
+    {
+        let [high, low] = bytes_of(number);
+        self.put_line(&[u8::from(kind), high, low]);
+    }
 
-fn put_number(buffer: &mut [u8], at: usize, kind: u8, number: u16) -> usize
-    requires { at + 9 ≤ length buffer.old }
-    ensures place { result ≡ at + 9 }
-    ensures writes { buffer.new ≡ splice buffer.old at (hex (checked (kind ∷ high number ∷ low number ∷ [])) ++ 10 ∷ []) }
-{
-    let [high, low] = bytes_of(number);
-    put_line(buffer, at, &[kind, high, low])
-}
-
-fn put_leg(buffer: &mut [u8], at: usize, leg: Leg) -> usize
-    requires { at + 19 ≤ length buffer.old }
-    ensures place { result ≡ at + 19 }
-    ensures writes { buffer.new ≡ splice buffer.old at (line (Frame.Entry leg)) }
-{
-    let kind = kind_of(leg);
-    let [from_high, from_low] = bytes_of(leg.from);
-    let [to_high, to_low] = bytes_of(leg.to);
-    let [length_high, length_low] = bytes_of(leg.length);
-    put_line(
-        buffer,
-        at,
-        &[
-            kind,
+    fn put_leg(&mut self, leg: Leg)
+        requires { Room (line (Frame.Entry leg)) self.old }
+        ensures { Puts (line (Frame.Entry leg)) self.old self.new }
+    {
+        let kind = Frame::Entry(leg).kind();
+        let [from_high, from_low] = bytes_of(leg.from);
+        let [to_high, to_low] = bytes_of(leg.to);
+        let [length_high, length_low] = bytes_of(leg.length);
+        self.put_line(&[
+            u8::from(kind),
             from_high,
             from_low,
             to_high,
@@ -164,14 +128,38 @@ fn put_leg(buffer: &mut [u8], at: usize, leg: Leg) -> usize
             length_high,
             length_low,
             leg.locks,
-        ],
-    )
-}
+        ]);
+    }
 
-fn kind_of(leg: Leg) -> u8
-    ensures { result ≡ leg_kind leg.«open» }
-{
-    if leg.open { OPEN_LEG } else { CLOSED_LEG }
+    fn put_legs(&mut self, legs: &[Leg])
+        requires { Room (lines (map Frame.Entry legs.now)) self.old }
+        ensures { Puts (lines (map Frame.Entry legs.now)) self.old self.new }
+    {
+        for leg in legs {
+            self.put_frame(Frame::Entry(*leg));
+        }
+    }
+
+    fn put_pivots(&mut self, pivots: &[bool])
+        requires few { length pivots.now ≤ 256 }
+        requires room { Room (lines (map Frame.Pivot (marked_from 0 pivots.now))) self.old }
+        ensures { Puts (lines (map Frame.Pivot (marked_from 0 pivots.now))) self.old self.new }
+    {
+        for (mark, marked) in (0u16..).zip(pivots) {
+            if *marked {
+                self.put_frame(Frame::Pivot(mark));
+            }
+        }
+    }
+
+    fn put_home(&mut self, home: Option<u16>)
+        requires { Room (lines (home_frames home)) self.old }
+        ensures { Puts (lines (home_frames home)) self.old self.new }
+    {
+        if let Some(mark) = home {
+            self.put_frame(Frame::Home(mark));
+        }
+    }
 }
 
 // A number's two bytes, the high one first.

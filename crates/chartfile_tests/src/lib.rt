@@ -1,33 +1,19 @@
 // Chart files, good and bad.
 #![tactic(auto)]
 
-use chart::{Chart, Refusal};
-use chartfile::{Cause, Fault, load, write};
+use chart::Chart;
+use chartfile::{Fault, load, write};
 use measure::by_length::Length;
 use std::alloc::{AllocError, Global};
 
 #[cfg(test)]
 mod tests;
 
-// A fault by its number, its line, and the chart's own number or 0.
-pub fn told(fault: Fault) -> (u8, usize, u8) {
-    let carried = match fault.cause {
-        Cause::BadEntry(refusal) => refusal.number(),
-        _ => 0,
-    };
-    (fault.cause.number(), fault.line, carried)
-}
-
 // What loading a text onto a blank chart brings: the marks and legs, or the fault.
-pub fn tried(
-    heap: Global,
-    text: &[u8],
-) -> Result<Result<(u16, usize), (u8, usize, u8)>, AllocError> {
+pub fn tried(heap: Global, text: &[u8]) -> Result<Result<(u16, usize), Fault>, AllocError> {
     let mut chart = Chart::begin(heap, Length)?;
-    match load(&mut chart, text) {
-        Ok(()) => Ok(Ok((chart.marks(), chart.legs().len()))),
-        Err(fault) => Ok(Err(told(fault))),
-    }
+    let loaded = load(&mut chart, text);
+    Ok(loaded.map(|()| (chart.marks(), chart.legs().len())))
 }
 
 // Whether a text is loaded and written back the same, or is refused and leaves the chart blank.
@@ -37,8 +23,6 @@ pub fn is_sound(heap: Global, text: &[u8]) -> Result<bool, AllocError> {
         return Ok(chart.marks() == 0);
     }
     let mut buffer = vec![in heap; 0u8; text.len()]?;
-    match write(&chart, buffer.as_mut_slice()) {
-        Ok(long) => Ok(long == text.len() && buffer.as_slice() == text),
-        Err(_) => Ok(false),
-    }
+    let written = write(&chart, buffer.as_mut_slice());
+    Ok(written == Ok(text.len()) && buffer.as_slice() == text)
 }

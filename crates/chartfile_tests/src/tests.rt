@@ -1,6 +1,6 @@
-use crate::{is_sound, told, tried};
-use chart::Chart;
-use chartfile::{load, write};
+use crate::{is_sound, tried};
+use chart::{Chart, Refusal};
+use chartfile::{Cause, Fault, ShortBuffer, load, write};
 use measure::by_length::Length;
 use std::alloc::Global;
 use std::fmt::Write;
@@ -9,11 +9,40 @@ use std::test::Fail;
 
 const SMALL: &str = "01010002FC\n0200000001001E00DF\n050000FB\n7F00037E\n";
 
+fn fault(line: usize, cause: Cause) -> Fault {
+    Fault { line, cause }
+}
+
+fn refused(line: usize, refusal: Refusal) -> Fault {
+    fault(line, Cause::from(refusal))
+}
+
+#[test]
+fn faults_have_numbers(rt: HostRuntime) {
+    assert_eq!(rt; Cause::HasMarks.number(), 16);
+    assert_eq!(rt; ShortBuffer.number(), 17);
+    assert_eq!(rt; Cause::BadDigits.number(), 18);
+    assert_eq!(rt; Cause::BadSum.number(), 19);
+    assert_eq!(rt; Cause::BadFrame.number(), 20);
+    let refusals = [
+        Refusal::MarksFull,
+        Refusal::NoSuchMark,
+        Refusal::SameEnds,
+        Refusal::OutOfLimits,
+        Refusal::LegsFull,
+        Refusal::JoinedAlready,
+    ];
+    for (number, refusal) in (1u8..).zip(refusals) {
+        assert_eq!(rt; refusal.number(), number);
+        assert_eq!(rt; Cause::from(refusal).number(), 21);
+    }
+}
+
 // Each text is loaded or refused so. What is loaded is written back, and what is refused leaves the chart blank.
 fn check_table(
     rt: &impl Abort,
     heap: Global,
-    table: &[(&str, Result<(u16, usize), (u8, usize, u8)>)],
+    table: &[(&str, Result<(u16, usize), Fault>)],
 ) -> Result<(), Fail> {
     for (text, outcome) in table {
         assert_eq!(rt; tried(heap, text.as_bytes())?, *outcome, "{}", *text);
@@ -44,53 +73,53 @@ fn sound_files(rt: HostRuntime) -> Result<(), Fail> {
 #[test]
 fn lines_that_are_no_frames(rt: HostRuntime) -> Result<(), Fail> {
     let table = [
-        ("", Err((20, 1, 0))),
+        ("", Err(fault(1, Cause::BadFrame))),
         (
             "01010002FC\n0200000001001E00DF\n050000FB\n7F00037E",
-            Err((18, 4, 0)),
+            Err(fault(4, Cause::BadDigits)),
         ),
         (
             "01010002FC\r\n0200000001001E00DF\n050000FB\n7F00037E\n",
-            Err((18, 1, 0)),
+            Err(fault(1, Cause::BadDigits)),
         ),
         (
             "01010002fc\n0200000001001E00DF\n050000FB\n7F00037E\n",
-            Err((18, 1, 0)),
+            Err(fault(1, Cause::BadDigits)),
         ),
         (
             "\n01010002FC\n0200000001001E00DF\n050000FB\n7F00037E\n",
-            Err((18, 1, 0)),
+            Err(fault(1, Cause::BadDigits)),
         ),
-        ("01010002F\n", Err((18, 1, 0))),
-        ("0101 002FC\n", Err((18, 1, 0))),
+        ("01010002F\n", Err(fault(1, Cause::BadDigits))),
+        ("0101 002FC\n", Err(fault(1, Cause::BadDigits))),
         (
             "06000000000000000000000000000000000000000000000000000000000000FA\n",
-            Err((20, 1, 0)),
+            Err(fault(1, Cause::BadFrame)),
         ),
         (
             "0101010101010101010101010101010101010101010101010101010101010100\n",
-            Err((19, 1, 0)),
+            Err(fault(1, Cause::BadSum)),
         ),
         (
             "000000000000000000000000000000000000000000000000000000000000000000\n",
-            Err((18, 1, 0)),
+            Err(fault(1, Cause::BadDigits)),
         ),
         (
             "01010002FD\n0200000001001E00DF\n050000FB\n7F00037E\n",
-            Err((19, 1, 0)),
+            Err(fault(1, Cause::BadSum)),
         ),
         (
             "01010002FC\n0200000001001E00DF\n050000FC\n7F00037E\n",
-            Err((19, 3, 0)),
+            Err(fault(3, Cause::BadSum)),
         ),
-        ("01020002FB\n7F000180\n", Err((20, 1, 0))),
-        ("060000FA\n", Err((20, 1, 0))),
-        ("010102FC\n", Err((20, 1, 0))),
-        ("0200000001001E00DF\n", Err((20, 1, 0))),
-        ("7F000081\n", Err((20, 1, 0))),
+        ("01020002FB\n7F000180\n", Err(fault(1, Cause::BadFrame))),
+        ("060000FA\n", Err(fault(1, Cause::BadFrame))),
+        ("010102FC\n", Err(fault(1, Cause::BadFrame))),
+        ("0200000001001E00DF\n", Err(fault(1, Cause::BadFrame))),
+        ("7F000081\n", Err(fault(1, Cause::BadFrame))),
         (
             "01010002FC\n0200000001001E00DF\n050000FB\n7F00037E\nx",
-            Err((18, 5, 0)),
+            Err(fault(5, Cause::BadDigits)),
         ),
     ];
     check_table(&rt, rt.alloc(), &table)
@@ -99,43 +128,49 @@ fn lines_that_are_no_frames(rt: HostRuntime) -> Result<(), Fail> {
 #[test]
 fn frames_out_of_order(rt: HostRuntime) -> Result<(), Fail> {
     let table = [
-        ("01010002FC\n01010002FC\n7F00027F\n", Err((20, 2, 0))),
+        (
+            "01010002FC\n01010002FC\n7F00027F\n",
+            Err(fault(2, Cause::BadFrame)),
+        ),
         (
             "01010002FC\n0200000001001E00DF\n7F00037E\n",
-            Err((20, 3, 0)),
+            Err(fault(3, Cause::BadFrame)),
         ),
         (
             "01010002FC\n0200000001001E00DF\n7F000180\n",
-            Err((20, 3, 0)),
+            Err(fault(3, Cause::BadFrame)),
         ),
-        ("01010002FC\n0200000001001E00DF\n", Err((20, 3, 0))),
+        (
+            "01010002FC\n0200000001001E00DF\n",
+            Err(fault(3, Cause::BadFrame)),
+        ),
         (
             "01010002FC\n0200000001001E00DF\n050000FB\n7F00037E\n7F00047D\n",
-            Err((20, 5, 0)),
+            Err(fault(5, Cause::BadFrame)),
         ),
         (
             "01010002FC\n0200000001001E00DF\n050000FB\n7F00037E\n0200000001001E00DF\n",
-            Err((20, 5, 0)),
+            Err(fault(5, Cause::BadFrame)),
         ),
         (
             "01010002FC\n040001FB\n040001FB\n7F00037E\n",
-            Err((20, 3, 0)),
+            Err(fault(3, Cause::BadFrame)),
         ),
         (
             "01010002FC\n040001FB\n040000FC\n7F00037E\n",
-            Err((20, 3, 0)),
+            Err(fault(3, Cause::BadFrame)),
         ),
         (
             "01010002FC\n040000FC\n0200000001001E00DF\n7F00037E\n",
-            Err((20, 3, 0)),
+            Err(fault(3, Cause::BadFrame)),
         ),
         (
             "01010002FC\n050000FB\n050001FA\n7F00037E\n",
-            Err((20, 3, 0)),
+            Err(fault(3, Cause::BadFrame)),
         ),
         (
             "01010002FC\n050000FB\n040001FB\n7F00037E\n",
-            Err((20, 3, 0)),
+            Err(fault(3, Cause::BadFrame)),
         ),
     ];
     check_table(&rt, rt.alloc(), &table)
@@ -144,37 +179,46 @@ fn frames_out_of_order(rt: HostRuntime) -> Result<(), Fail> {
 #[test]
 fn entries_refused(rt: HostRuntime) -> Result<(), Fail> {
     let table = [
-        ("01010101FC\n7F000180\n", Err((21, 1, 1))),
+        (
+            "01010101FC\n7F000180\n",
+            Err(refused(1, Refusal::MarksFull)),
+        ),
         (
             "01010002FC\n0200000002001E00DE\n7F00027F\n",
-            Err((21, 2, 2)),
+            Err(refused(2, Refusal::NoSuchMark)),
         ),
         (
             "01010002FC\n0200010001001E00DE\n7F00027F\n",
-            Err((21, 2, 3)),
+            Err(refused(2, Refusal::SameEnds)),
         ),
         (
             "01010002FC\n0200000001000000FD\n7F00027F\n",
-            Err((21, 2, 4)),
+            Err(refused(2, Refusal::OutOfLimits)),
         ),
         (
             "01010002FC\n0200000001EA6100B2\n7F00027F\n",
-            Err((21, 2, 4)),
+            Err(refused(2, Refusal::OutOfLimits)),
         ),
         (
             "01010002FC\n020000000100016498\n7F00027F\n",
-            Err((21, 2, 4)),
+            Err(refused(2, Refusal::OutOfLimits)),
         ),
         (
             "01010002FC\n0200000001001E00DF\n0200000001001E00DF\n7F00037E\n",
-            Err((21, 3, 6)),
+            Err(refused(3, Refusal::JoinedAlready)),
         ),
         (
             "01010002FC\n0300000001000100FB\n0200010000001E00DF\n7F00037E\n",
-            Err((21, 3, 6)),
+            Err(refused(3, Refusal::JoinedAlready)),
         ),
-        ("01010002FC\n040002FA\n7F00027F\n", Err((21, 2, 2))),
-        ("01010002FC\n050002F9\n7F00027F\n", Err((21, 2, 2))),
+        (
+            "01010002FC\n040002FA\n7F00027F\n",
+            Err(refused(2, Refusal::NoSuchMark)),
+        ),
+        (
+            "01010002FC\n050002F9\n7F00027F\n",
+            Err(refused(2, Refusal::NoSuchMark)),
+        ),
     ];
     check_table(&rt, rt.alloc(), &table)
 }
@@ -191,7 +235,10 @@ fn full_file(rt: HostRuntime) -> Result<(), Fail> {
             writeln!(text, "02{a:04X}{b:04X}000100{check:02X}")?;
         }
     }
-    assert_eq!(rt; tried(heap, text.as_bytes())?, Err((21, 1026, 5)));
+    assert_eq!(rt;
+        tried(heap, text.as_bytes())?,
+        Err(refused(1026, Refusal::LegsFull))
+    );
     Ok(())
 }
 
@@ -199,10 +246,8 @@ fn full_file(rt: HostRuntime) -> Result<(), Fail> {
 fn chart_with_marks(rt: HostRuntime) -> Result<(), Fail> {
     let mut chart = Chart::begin(rt.alloc(), Length)?;
     assert!(rt; chart.add_mark().is_ok());
-    match load(&mut chart, SMALL.as_bytes()) {
-        Ok(()) => return Err(Fail::new("loaded")),
-        Err(fault) => assert_eq!(rt; told(fault), (16, 0, 0)),
-    }
+    let loaded = load(&mut chart, SMALL.as_bytes());
+    assert_eq!(rt; loaded, Err(fault(0, Cause::HasMarks)));
     assert_eq!(rt; chart.marks(), 1);
     Ok(())
 }
@@ -212,22 +257,16 @@ fn buffers(rt: HostRuntime) -> Result<(), Fail> {
     let mut chart = Chart::begin(rt.alloc(), Length)?;
     assert!(rt; load(&mut chart, SMALL.as_bytes()).is_ok());
     let mut short = [7u8; 47];
-    match write(&chart, &mut short) {
-        Ok(_) => return Err(Fail::new("written")),
-        Err(fault) => assert_eq!(rt; fault.number(), 17),
-    }
+    assert_eq!(rt; write(&chart, &mut short), Err(ShortBuffer));
     assert_eq!(rt; short, [7u8; 47]);
     let mut long = [7u8; 50];
-    match write(&chart, &mut long) {
-        Ok(size) => assert_eq!(rt; size, 48),
-        Err(_) => return Err(Fail::new("refused")),
-    }
+    assert_eq!(rt; write(&chart, &mut long), Ok(48));
     assert!(rt; &long[0..48] == SMALL.as_bytes());
     assert!(rt; &long[48..50] == [7u8; 2].as_slice());
     Ok(())
 }
 
-// The small file, damaged at every byte in turn, by every other byte.
+// The small file, damaged at every byte in turn, by every other byte. By index, since the whole text is read in between.
 #[test]
 fn damaged_files(rt: HostRuntime) -> Result<(), Fail> {
     let heap = rt.alloc();

@@ -1,6 +1,7 @@
 // Charts made up from a seed.
-ghost use Rattle.std.specs.Prelude.{◌≡◌, ◌+◌, ◌<◌, ◌≤◌, MatchOption};
+ghost use Rattle.std.specs.Prelude.{◌≡◌};
 
+use dice::LongDice;
 use std::alloc::{AllocError, Global};
 use waterway::Leg;
 
@@ -25,58 +26,33 @@ pub struct Shape {
     pub every: u16,
 }
 
-// The state of a linear congruential generator.
-#[derive(Drop)]
-pub struct Seed {
-    state: u64,
-}
-
-impl Seed {
-    pub fn new(state: u64) -> Seed
-        ensures { result.state ≡ state }
-    {
-        Seed { state }
-    }
-
-    // A number below `bound`, or 0 where there is none.
-    pub fn below(&mut self, bound: u16) -> u16
-        ensures { (0 < bound → result < bound) × (bound ≡ 0 → result ≡ 0) }
-    {
-        self.state = self
-            .state
-            .wrapping_mul(6_364_136_223_846_793_005)
-            .wrapping_add(1_442_695_040_888_963_407);
-        let drawn = (self.state >> 48) as u16;
-        if bound == 0 {
-            return 0;
+impl Layout {
+    // Whether a leg may be laid between two marks.
+    fn allows(&self, from: u16, to: u16) -> bool {
+        match self {
+            Layout::Islands(count) => from.checked_rem(*count) == to.checked_rem(*count),
+            _ => true,
         }
-        drawn % bound
     }
 }
 
 // Two marks that leg number k may join.
-fn ends(shape: &Shape, seed: &mut Seed, k: u16) -> Option<(u16, u16)> {
+fn ends(shape: &Shape, dice: &mut LongDice, k: u16) -> Option<(u16, u16)> {
     let (from, to) = match shape.layout {
         Layout::Chain => (k, k.saturating_add(1)),
-        _ => (seed.below(shape.marks), seed.below(shape.marks)),
+        _ => (dice.roll(shape.marks), dice.roll(shape.marks)),
     };
-    if from == to || from >= shape.marks || to >= shape.marks {
-        return None;
-    }
-    if let Layout::Islands(count) = shape.layout {
-        if count > 0 && from % count != to % count {
-            return None;
-        }
-    }
-    Some((from, to))
+    let stands = from != to && from < shape.marks && to < shape.marks;
+    (stands && shape.layout.allows(from, to)).then_some((from, to))
 }
 
-fn make_leg(shape: &Shape, seed: &mut Seed, from: u16, to: u16) -> Leg
+fn make_leg(shape: &Shape, dice: &mut LongDice, from: u16, to: u16) -> Leg
     ensures { (result.from ≡ from) × (result.to ≡ to) }
 {
-    let length = seed.below(shape.longest).saturating_add(1);
-    let locks = seed.below(u16::from(shape.most_locks) + 1) as u8;
-    let open = seed.below(100) >= shape.closed;
+    let length = dice.roll(shape.longest).saturating_add(1);
+    // The cast loses nothing: no roll is above the most locks.
+    let locks = dice.roll(u16::from(shape.most_locks) + 1) as u8;
+    let open = dice.roll(100) >= shape.closed;
     Leg {
         from,
         to,
@@ -86,12 +62,11 @@ fn make_leg(shape: &Shape, seed: &mut Seed, from: u16, to: u16) -> Leg
     }
 }
 
-pub fn make_legs(heap: Global, shape: &Shape, seed: &mut Seed) -> Result<Vec<Leg>, AllocError> {
-    let mut legs = Vec::new(heap);
-    for k in 0..shape.legs {
-        if let Some((from, to)) = ends(shape, seed, k) {
-            legs.push(make_leg(shape, seed, from, to))?;
-        }
-    }
-    Ok(legs)
+pub fn make_legs(heap: Global, shape: &Shape, dice: &mut LongDice) -> Result<Vec<Leg>, AllocError> {
+    (0..shape.legs)
+        .filter_map(|k| {
+            let (from, to) = ends(shape, dice, k)?;
+            Some(make_leg(shape, dice, from, to))
+        })
+        .collect(heap)
 }

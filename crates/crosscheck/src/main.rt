@@ -1,8 +1,9 @@
 // Made-up charts, searched from their marks by the plain search and by a table of all pairs: the two must agree.
 #![tactic(auto)]
 
-use crate::made::{Layout, Seed, Shape, make_legs};
+use crate::made::{Layout, Shape, make_legs};
 use crate::tally::{Tally, compare};
+use dice::LongDice;
 use measure::by_length::Length;
 use measure::by_locks::LocksFirst;
 use std::alloc::{AllocError, Global};
@@ -100,30 +101,24 @@ static SHAPES: [Shape; 8] = [
 fn compare_shape(
     heap: Global,
     shape: &Shape,
-    seed: &mut Seed,
+    dice: &mut LongDice,
     tally: &mut Tally,
 ) -> Result<(), AllocError> {
     for _ in 0..shape.charts {
-        let legs = make_legs(heap, shape, seed)?;
-        compare(heap, &Length, legs.as_slice(), shape, tally)?;
-        compare(heap, &LocksFirst, legs.as_slice(), shape, tally)?;
+        let legs = make_legs(heap, shape, dice)?;
+        compare(heap, &Length, &legs, shape, tally)?;
+        compare(heap, &LocksFirst, &legs, shape, tally)?;
         tally.charts = tally.charts.saturating_add(1);
     }
     Ok(())
 }
 
 fn main(rt: HostRuntime) -> anyhow::Result<()> {
-    let mut seed = Seed::new(20_251);
-    let mut tally = Tally::new();
+    let mut dice = LongDice::new(20_251);
+    let mut tally = Tally::default();
     for shape in &SHAPES {
-        compare_shape(rt.alloc(), shape, &mut seed, &mut tally)?;
+        compare_shape(rt.alloc(), shape, &mut dice, &mut tally)?;
     }
-    println!(rt; "charts {}", tally.charts)?;
-    println!(rt; "searches {}, refused {}", tally.searches, tally.refused)?;
-    println!(rt;
-        "marks compared {}, without a way {}",
-        tally.marks, tally.apart
-    )?;
-    println!(rt; "differences {}", tally.differences)?;
+    println!(rt; "{tally}")?;
     Ok(())
 }

@@ -1,48 +1,48 @@
 // The least weights of the ways between all pairs of 256 marks, found by taking each mark in turn as a stop on the way.
-ghost use Rattle.std.specs.Prelude.{◌≡◌, ◌+◌, ◌*◌};
-
 use std::alloc::{AllocError, Global};
-
-// What stands for no way.
-pub const NO_WAY: u64 = u64::MAX;
 
 const SIDE: usize = 256;
 
+// A weight for each pair of marks between which a way is known, a row for each mark that it leads from.
 #[derive(Drop)]
 pub struct Pairs {
-    weights: Vec<u64>,
-}
-
-// Where the pair of two marks stands.
-fn place(from: u16, to: u16) -> usize
-    ensures { result ≡ from * 256 + to }
-{
-    from as usize * SIDE + to as usize
+    rows: Vec<[Option<u64>; SIDE]>,
 }
 
 impl Pairs {
-    pub fn new(heap: Global) -> Result<Pairs, AllocError> {
-        let weights = vec![in heap; NO_WAY; SIDE * SIDE]?;
-        Ok(Pairs { weights })
+    // Each mark is nothing away from itself, and no other way is known.
+    pub fn new(heap: Global, marks: u16) -> Result<Pairs, AllocError> {
+        let rows = vec![in heap; [None; SIDE]; SIDE]?;
+        let mut pairs = Pairs { rows };
+        for mark in 0..marks {
+            pairs.lower(mark, mark, 0);
+        }
+        Ok(pairs)
     }
 
-    pub fn at(&self, from: u16, to: u16) -> u64 {
-        self.weights.get(place(from, to)).copied().unwrap_or(NO_WAY)
+    pub fn at(&self, from: u16, to: u16) -> Option<u64> {
+        let row = self.rows.get(usize::from(from))?;
+        row.get(usize::from(to)).copied().flatten()
     }
 
     // Lowers the weight from one mark to another.
     pub fn lower(&mut self, from: u16, to: u16, weight: u64) {
-        let at = place(from, to);
-        if at < self.weights.len() && weight < self.weights[at] {
-            self.weights[at] = weight;
+        let Some(row) = self.rows.get_mut(usize::from(from)) else {
+            return;
+        };
+        if let Some(least) = row.get_mut(usize::from(to)) {
+            *least = Some(least.map_or(weight, |known| known.min(weight)));
         }
     }
 
     fn stop_from(&mut self, marks: u16, stop: u16, from: u16) {
-        let first = self.at(from, stop);
+        let Some(first) = self.at(from, stop) else {
+            return;
+        };
         for to in 0..marks {
-            let second = self.at(stop, to);
-            self.lower(from, to, first.saturating_add(second));
+            if let Some(second) = self.at(stop, to) {
+                self.lower(from, to, first.saturating_add(second));
+            }
         }
     }
 

@@ -1,15 +1,13 @@
 // The comparison of the two searches, and what it counts.
-ghost use Rattle.std.specs.Prelude.{◌≡◌, IfOk, vec_len};
-
 use crate::made::Shape;
 use crate::numbered::Numbered;
-use crate::pairs::{NO_WAY, Pairs};
-use measure::Cost;
+use crate::pairs::Pairs;
 use plain::find_distances;
 use std::alloc::{AllocError, Global};
+use std::fmt;
 use waterway::{Label, Leg};
 
-#[derive(Drop)]
+#[derive(Default, Drop)]
 pub struct Tally {
     pub charts: u64,
     pub searches: u64,
@@ -19,22 +17,24 @@ pub struct Tally {
     pub differences: u64,
 }
 
-impl Tally {
-    pub fn new() -> Tally {
-        Tally {
-            charts: 0,
-            searches: 0,
-            refused: 0,
-            marks: 0,
-            apart: 0,
-            differences: 0,
-        }
+impl fmt::Display for Tally {
+    fn fmt<W: fmt::Write>(&self, f: &mut fmt::Formatter<W>) -> fmt::Result {
+        writeln!(f, "charts {}", self.charts)?;
+        writeln!(f, "searches {}, refused {}", self.searches, self.refused)?;
+        writeln!(
+            f,
+            "marks compared {}, without a way {}",
+            self.marks, self.apart
+        )?;
+        write!(f, "differences {}", self.differences)
     }
+}
 
+impl Tally {
     // Counts one mark, with the weight by the plain search and that by the table.
-    fn count(&mut self, found: u64, expected: u64) {
+    fn count(&mut self, found: Option<u64>, expected: Option<u64>) {
         self.marks = self.marks.saturating_add(1);
-        if expected == NO_WAY {
+        if expected.is_none() {
             self.apart = self.apart.saturating_add(1);
         }
         if found != expected {
@@ -50,10 +50,7 @@ fn join_pairs<M: Numbered>(
     legs: &[Leg],
     marks: u16,
 ) -> Result<Pairs, AllocError> {
-    let mut pairs = Pairs::new(heap)?;
-    for mark in 0..marks {
-        pairs.lower(mark, mark, 0);
-    }
+    let mut pairs = Pairs::new(heap, marks)?;
     for leg in legs {
         if leg.open {
             let weight = m.weight(leg.length, leg.locks);
@@ -79,29 +76,10 @@ fn compare_from<M: Numbered>(
         tally.refused = tally.refused.saturating_add(1);
         return;
     }
-    for mark in 0..labels.len().min(256) {
-        let label = labels[mark];
-        let found = if label.known {
-            m.figure(label.cost)
-        } else {
-            NO_WAY
-        };
-        tally.count(found, pairs.at(home, mark as u16));
+    for (mark, label) in (0..256).zip(labels.iter()) {
+        let found = label.told().map(|cost| m.figure(cost));
+        tally.count(found, pairs.at(home, mark));
     }
-}
-
-// Blank labels for so many marks.
-fn blank_labels<C: Cost>(heap: Global, marks: u16) -> Result<Vec<Label<C>>, AllocError>
-    ensures { IfOk result (λ v. vec_len v ≡ marks) }
-{
-    let mut labels = Vec::new(heap);
-    for _mark in 0..marks {
-        labels.push(Label {
-            known: false,
-            cost: C::zero(),
-        })?;
-    }
-    Ok(labels)
 }
 
 // Compares the two searches on one chart, from some of its marks.
@@ -113,12 +91,9 @@ pub fn compare<M: Numbered>(
     tally: &mut Tally,
 ) -> Result<(), AllocError> {
     let pairs = join_pairs(heap, m, legs, shape.marks)?;
-    let mut labels = blank_labels(heap, shape.marks)?;
-    let every = shape.every.max(1);
-    for home in 0..shape.marks {
-        if home % every == 0 {
-            compare_from(m, legs, labels.as_mut_slice(), home, &pairs, tally);
-        }
+    let mut labels = vec![in heap; Label::blank(); usize::from(shape.marks)]?;
+    for home in (0..shape.marks).step_by(usize::from(shape.every.max(1))) {
+        compare_from(m, legs, &mut labels, home, &pairs, tally);
     }
     Ok(())
 }

@@ -1,12 +1,12 @@
 -- A file that was loaded stands for the calls that make its entries.
-use Rattle.std.proofs.Common.{◌≡◌, ℕ, zero, suc, ◌+◌, ◌<◌, ◌≤◌, Bool, true, false, ◌⊎◌, List, [], ◌∷◌, ◌++◌, length, replicate, None, Ok, Err, Option, sym, refl, ap, ◌∙◌, subst, inl, inr, arith}
+use Rattle.std.proofs.Common.{◌≡◌, ℕ, zero, suc, ◌+◌, ◌<◌, ◌≤◌, Bool, true, false, List, [], ◌∷◌, ◌++◌, length, replicate, None, Ok, Option, sym, refl, ap, ◌∙◌, subst, inl, inr, arith}
+use Rattle.std.proofs.Math.Nat.{eq-zero-or-pos}
 use Rattle.std.proofs.lemmas.List.{length_push}
 use Rattle.waterway.specs.declared.Leg.{Leg}
 use Rattle.chart.specs.Possible.{Possible}
 use Rattle.chart.specs.State.{State, marks, blank}
 use Rattle.chart.specs.Calls.{with_mark, with_leg, turning}
 use Rattle.chart.proofs.States.{blank_without_marks}
-use Rattle.chartfile.specs.declared.fault.Fault.{Fault}
 use Rattle.chartfile.specs.declared.frame.Frame.{Frame}
 use Rattle.chartfile.specs.declared.frame.Frame.TheVariants.{Head, Entry, Pivot, Home, Last}
 use Rattle.chartfile.specs.Entries.{with_marks, entry_checks, entered, Passed, Sound, after}
@@ -67,24 +67,11 @@ file_accepted s p idle =
     let same : unworked s ≡ s = λ i. record { legs = s.legs; pivots = s.pivots; home = s.home; worked = sym idle i } in
     subst (Accepted blank (file_calls s)) (whole_after s p ∙ same) (all_accepted 0 None blank (all_frames s) (whole_sound s p))
 
-or_some : (n : ℕ) → (n ≡ 0) ⊎ (0 < n)
-or_some zero = inl refl
-or_some (suc n) = inr (omega arith)
-
 module _ {text : List ℕ} (s s' : State) (p : Possible s) where
   bare : Loads text s (Ok tt) s' → marks s ≡ 0
-  bare loads = elim (or_some (marks s)) [
-    | inl none ↦ none
-    | inr some ↦ let e = (loads.refused some).0 in let z : ◌≡◌ {A = ℕ} 0 1 = cc in absurd (omega arith)
-  ]
+  bare loads = grind (arith, eq-zero-or-pos (marks s))
 
   pub loaded : Possible s' → Loads text s (Ok tt) s' → (s ≡ blank) × Accepted s (file_calls s') s'
   loaded p' loads =
       let was = blank_without_marks s p (bare loads) in
       (was, subst (λ (t : State). Accepted t (file_calls s') s') (sym was) (file_accepted s' p' (loads.loaded (bare loads)).1))
-
-  pub refused : (fault : Fault) → Loads text s (Err fault) s' → s' ≡ s
-  refused fault loads = elim (or_some (marks s)) [
-    | inl none ↦ (loads.loaded none).1 ∙ sym (blank_without_marks s p none)
-    | inr some ↦ (loads.refused some).1
-  ]

@@ -1,3 +1,1 @@
 mod Filed
-mod Retold
-mod Telling

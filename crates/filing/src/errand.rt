@@ -1,6 +1,7 @@
 // The errands on a chart, and what they are answered.
 ghost use Rattle.std.specs.Prelude.{◌≡◌};
 ghost use Rattle.filing.specs.Refusals.{number_of};
+ghost use Rattle.filing.specs.declared.errand.Refused.TheVariants.{Chart, File, Buffer};
 
 use calls::{Answer, Call};
 use chart::Refusal;
@@ -26,7 +27,7 @@ pub enum Done {
 }
 
 // Who refused an errand, and why.
-#[derive(Clone, Copy)]
+#[derive(Clone, Copy, Debug, PartialEq, Eq)]
 pub enum Refused {
     Chart(Refusal),
     File(Fault),
@@ -42,5 +43,29 @@ impl Refused {
             Refused::File(fault) => fault.cause.number(),
             Refused::Buffer(short) => short.number(),
         }
+    }
+}
+
+impl From<Refusal> for Refused {
+    ghost from_gives = { λ refusal refused. refused ≡ Chart refusal };
+
+    fn from(refusal: Refusal) -> Refused {
+        Refused::Chart(refusal)
+    }
+}
+
+impl From<Fault> for Refused {
+    ghost from_gives = { λ fault refused. refused ≡ File fault };
+
+    fn from(fault: Fault) -> Refused {
+        Refused::File(fault)
+    }
+}
+
+impl From<ShortBuffer> for Refused {
+    ghost from_gives = { λ buffer refused. refused ≡ Buffer buffer };
+
+    fn from(buffer: ShortBuffer) -> Refused {
+        Refused::Buffer(buffer)
     }
 }

@@ -6,21 +6,19 @@ ghost use Rattle.chart.specs.Shown.{state};
 ghost use Rattle.chart.specs.State.{blank};
 ghost use Rattle.filing.specs.Law.{Goes, Told};
 
-use calling::make_call;
 use chart::Chart;
-use files::{load_file, write_file};
+use chartfile::{load, write};
 use measure::Measure;
 use std::alloc::{AllocError, Global};
 
-mod calling;
 pub mod errand;
-mod files;
 #[cfg(test)]
 mod tests;
 
 pub use errand::{Done, Errand, Refused};
 
 // Begins a blank chart with the measure, and performs the errands on it, one after the other.
+// It is not `calls::run` made generic: errands are lent to be changed, and a list of calls would be copied for that.
 pub fn run<M: Measure + Drop>(
     heap: Global,
     measure: M,
@@ -30,18 +28,26 @@ pub fn run<M: Measure + Drop>(
 {
     let mut chart = Chart::begin(heap, measure)?;
     let mut answers = Vec::new(heap);
+    // A loop: of the chart that a closure changes, no proof of a chain knows.
     for errand in errands.iter_mut() {
         answers.push(perform(&mut chart, errand))?;
     }
     Ok(answers)
 }
 
+// Performs one errand on a chart.
 fn perform<M: Measure>(chart: &mut Chart<M>, errand: &mut Errand) -> Result<Done, Refused>
     ensures { Goes (state chart.old) errand.old errand.new result (state chart.new) }
 {
-    match errand {
-        Errand::Call(call) => make_call(chart, *call),
-        Errand::Load(text) => load_file(chart, text.as_slice()),
-        Errand::Write(buffer) => write_file(chart, buffer.as_mut_slice()),
-    }
+    Ok(match errand {
+        Errand::Call(call) => Done::Called(calls::perform(chart, *call)?),
+        Errand::Load(text) => {
+            load(chart, text.as_slice())?;
+            Done::Loaded {
+                marks: chart.marks(),
+                legs: chart.legs().len(),
+            }
+        }
+        Errand::Write(buffer) => Done::Written(write(chart, buffer.as_mut_slice())?),
+    })
 }

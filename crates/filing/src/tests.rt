@@ -12,8 +12,8 @@ fn a_file_comes_back(rt: HostRuntime) -> Result<(), Fail> {
     errands.push(Errand::Write(vec![in heap; 7u8; 50]?))?;
     let answers = run(heap, Length, errands.as_mut_slice())?;
     assert_eq!(rt; answers.len(), 2);
-    assert!(rt; matches!(answers[0], Ok(Done::Loaded { marks: 2, legs: 1 })));
-    assert!(rt; matches!(answers[1], Ok(Done::Written(48))));
+    assert_eq!(rt; answers[0], Ok(Done::Loaded { marks: 2, legs: 1 }));
+    assert_eq!(rt; answers[1], Ok(Done::Written(48)));
     assert_eq!(rt; errands.len(), 2);
     let Errand::Write(buffer) = &errands[1] else {
         return Err(Fail::new("another errand"));

@@ -1,1 +1,2 @@
-pub mod Homeward
+pub mod Finding
+pub mod StepsHome

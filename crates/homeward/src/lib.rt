@@ -1,124 +1,103 @@
 // The steps home, and the routes.
 #![tactic(auto)]
 
-ghost use Rattle.std.specs.Prelude.{◌≡◌, ℕ, ◌<◌, ◌≤◌, true, false, length, drop, Some, None};
+ghost use Rattle.std.specs.Prelude.{◌≡◌, ℕ, ◌<◌, ◌≤◌, List, length, take, drop};
 ghost use Rattle.waterway.specs.Labels.{label_of};
 ghost use Rattle.waterway.specs.Ways.{Dist, Tells};
-ghost use Rattle.waterway.specs.Priced.{water};
-ghost use Rattle.waterway.specs.Routes.{Route};
 ghost use Rattle.waterway.specs.Priced.{Charted};
-ghost use Rattle.homeward.specs.Steps.{LeadsBack, StepIs, StepsAre};
+ghost use Rattle.waterway.specs.Routes.{Route};
+ghost use Rattle.homeward.specs.Steps.{Leads, LeadsBack, StepIs, StepsAre};
+ghost use Rattle.homeward.specs.Waters.{waters};
 
 use measure::{Cost, Measure};
-use relaxing::{add, far_end, label_at};
-use std::cmp::Ordering;
-use waterway::{Label, Leg, price_at};
+use relaxing::label_at;
+use waterway::{Label, Leg};
 
 // A step home: the leg, and the mark at its other end.
-#[derive(Clone, Copy)]
+#[derive(Clone, Copy, Debug, PartialEq, Eq)]
 pub struct Step {
-    pub known: bool,
     pub leg: usize,
     pub next: u16,
 }
 
-// The far end of the leg k from v, if its label and the price make up the label of v.
-fn leads_back<M: Measure>(
-    m: &M,
-    legs: &[Leg],
-    labels: &[Label<M::Cost>],
-    k: usize,
-    v: u16,
-) -> Option<u16>
-    requires chart { Charted legs.now (length labels.now) }
-    requires stands { k < length legs.now }
-    requires inside { v < length labels.now }
-    ensures { LeadsBack (water M.Cost.Cost.kind (M.Measure.priced m.now) legs.now) labels.now v k result }
-{
-    let Some(w) = far_end(legs[k], v) else {
-        return None;
-    };
-    let Some(far) = label_at(labels, v) else {
-        return None;
-    };
-    let price = price_at(m, legs, k);
-    let Some(sum) = add(label_at(labels, w), price) else {
-        return None;
-    };
-    match sum.compare(far) {
-        Ordering::Equal => Some(w),
-        _ => None,
-    }
+// The legs of a chart, what prices them, and home.
+#[derive(Drop)]
+pub struct Homeward<'a, M> {
+    pub measure: &'a M,
+    pub legs: &'a [Leg],
+    pub home: u16,
 }
 
-// The step home from a mark: over the first leg that leads back.
-fn step_home<M: Measure>(m: &M, legs: &[Leg], labels: &[Label<M::Cost>], home: u16, v: u16) -> Step
-    requires chart { Charted legs.now (length labels.now) }
-    requires tells { (v : ℕ) → Tells (water M.Cost.Cost.kind (M.Measure.priced m.now) legs.now) home v (label_of M.Cost.Cost.kind labels.now v) }
-    requires inside { v < length labels.now }
-    ensures { StepIs (water M.Cost.Cost.kind (M.Measure.priced m.now) legs.now) home v result }
-{
-    let none = Step {
-        known: false,
-        leg: 0,
-        next: home,
-    };
-    if v == home {
-        return none;
+impl<M: Measure> Homeward<'_, M> {
+    // The step from v over the leg k, if the label of its far end and the price make up the label of v.
+    fn step_back(&self, labels: &[Label<M::Cost>], v: u16, k: usize) -> Option<Step>
+        requires chart { Charted self.now.legs.now (length labels.now) }
+        requires stands { k < length self.now.legs.now }
+        requires inside { v < length labels.now }
+        ensures { LeadsBack (waters M.Cost.Cost.kind M.Measure.priced self.now) labels.now v k result }
+    {
+        let leg = &self.legs[k];
+        let next = leg.far_end(v)?;
+        let near = label_at(labels, next)?;
+        let far = label_at(labels, v)?;
+        let sum = near.sum(leg.price(self.measure))?;
+        sum.compare(far).is_eq().then_some(Step { leg: k, next })
     }
-    for k in 0..legs.len() {
-        if let Some(next) = leads_back(m, legs, labels, k, v) {
-            return Step {
-                known: true,
-                leg: k,
-                next,
-            };
+
+    // The step home from a mark: over the first leg that leads back.
+    fn step_home(&self, labels: &[Label<M::Cost>], v: u16) -> Option<Step>
+        requires chart { Charted self.now.legs.now (length labels.now) }
+        requires tells { (v : ℕ) → Tells (waters M.Cost.Cost.kind M.Measure.priced self.now) self.now.home v (label_of M.Cost.Cost.kind labels.now v) }
+        requires inside { v < length labels.now }
+        ensures { StepIs (waters M.Cost.Cost.kind M.Measure.priced self.now) self.now.home v result }
+    {
+        if v == self.home {
+            return None;
+        }
+        // By number, as a step names its leg; through `enumerate` no proof was found that this leg is the first.
+        (0..self.legs.len()).find_map(|k| self.step_back(labels, v, k))
+    }
+
+    // Writes the step home of each mark, or that it has none.
+    pub fn write_steps(&self, labels: &[Label<M::Cost>], steps: &mut [Option<Step>])
+        requires chart { Charted self.now.legs.now (length labels.now) }
+        requires tells { (v : ℕ) → Tells (waters M.Cost.Cost.kind M.Measure.priced self.now) self.now.home v (label_of M.Cost.Cost.kind labels.now v) }
+        requires long { length steps.old ≡ length labels.now }
+        ensures { StepsAre (waters M.Cost.Cost.kind M.Measure.priced self.now) self.now.home steps.new (length steps.new) }
+    {
+        // By `enumerate` and a cast that loses nothing: what is written through `iter_mut` in a `zip` no proof knows.
+        for (v, step) in steps.iter_mut().enumerate() {
+            *step = self.step_home(labels, v as u16);
         }
     }
-    none
-}
 
-// Writes the step home of each mark.
-pub fn write_steps<M: Measure>(
-    m: &M,
-    legs: &[Leg],
-    labels: &[Label<M::Cost>],
-    steps: &mut [Step],
-    home: u16,
-)
-    requires chart { Charted legs.now (length labels.now) }
-    requires tells { (v : ℕ) → Tells (water M.Cost.Cost.kind (M.Measure.priced m.now) legs.now) home v (label_of M.Cost.Cost.kind labels.now v) }
-    requires long { length steps.old ≡ length labels.now }
-    ensures { StepsAre (water M.Cost.Cost.kind (M.Measure.priced m.now) legs.now) home steps.new (length steps.new) }
-{
-    for v in 0..labels.len() {
-        steps[v] = step_home(m, legs, labels, home, v as u16);
+    // Writes the route from home to a mark to the end of `route`, and returns where it begins.
+    // An index, since no proof was found for a slice that is lent again after it is written.
+    pub fn write_route(&self, steps: &[Option<Step>], route: &mut [usize], v: u16) -> usize
+        requires chart { Charted self.now.legs.now (length steps.now) }
+        requires steps { StepsAre (waters M.Cost.Cost.kind M.Measure.priced self.now) self.now.home steps.now (length steps.now) }
+        requires home { self.now.home < length steps.now }
+        requires way { (c : _) × Dist (waters M.Cost.Cost.kind M.Measure.priced self.now) self.now.home v c }
+        requires room { length steps.now ≤ length route.old }
+        ensures inside { result ≤ length route.new }
+        ensures front { take result route.new ≡ take result route.old }
+        ensures route { Route (waters M.Cost.Cost.kind M.Measure.priced self.now) self.now.home v (drop result route.new) }
+    {
+        write_legs(steps, route, v)
     }
 }
 
-// Writes the route from home to a mark to the end of `route`, and returns where it begins.
-pub fn write_route<M: Measure>(
-    m: &M,
-    legs: &[Leg],
-    steps: &[Step],
-    route: &mut [usize],
-    home: u16,
-    v: u16,
-) -> usize
-    requires chart { Charted legs.now (length steps.now) }
-    requires steps { StepsAre (water M.Cost.Cost.kind (M.Measure.priced m.now) legs.now) home steps.now (length steps.now) }
-    requires home { home < length steps.now }
-    requires way { (c : _) × Dist (water M.Cost.Cost.kind (M.Measure.priced m.now) legs.now) home v c }
-    requires room { length steps.now ≤ length route.old }
-    ensures { Route (water M.Cost.Cost.kind (M.Measure.priced m.now) legs.now) home v (drop result route.new) }
+// Writes the legs that the steps take from a mark to the end of `route`, the first last, and returns where they begin.
+fn write_legs(steps: &[Option<Step>], route: &mut [usize], v: u16) -> usize
+    requires { (ks : List ℕ) × Leads steps.now v ks × (length ks ≤ length route.old) }
+    ensures inside { result ≤ length route.new }
+    ensures front { take result route.new ≡ take result route.old }
+    ensures legs { Leads steps.now v (drop result route.new) }
 {
-    let mut at = route.len();
-    let mut mark = v;
-    while mark != home {
-        let step = steps[mark as usize];
-        at -= 1;
-        route[at] = step.leg;
-        mark = step.next;
-    }
-    at
+    let Some(step) = steps[usize::from(v)] else {
+        return route.len();
+    };
+    let (last, before) = route.split_last_mut().unwrap();
+    *last = step.leg;
+    write_legs(steps, before, step.next)
 }

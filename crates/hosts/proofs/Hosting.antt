@@ -1,30 +1,32 @@
 -- All hosts and the whole near table.
-use Rattle.std.proofs.Common.{◌≡◌, ℕ, suc, ◌+◌, ◌-◌, ◌<◌, ◌≤◌, Bool, true, false, List, [], ◌∷◌, ◌++◌, map, length, get_or, set, replicate, Some, None, sym, refl, ap, ◌∙◌, subst, inl, inr, add-one, arith, length-append}
+use Rattle.std.proofs.Common.{◌≡◌, ℕ, suc, ◌+◌, ◌-◌, min, ◌<◌, ◌≤◌, Bool, false, List, [], ◌∷◌, ◌++◌, map, length, get_or, take, drop, set, replicate, Some, None, sym, refl, ap, ◌∙◌, subst, inl, inr, add-one, arith, length-append, length-take, length-drop}
 use mathlib.Core.Path.{fun_ext}
 use native.Mathlib.Decide.{ℕ_discrete, dec_lt}
 use lib.ListN.{length-replicate}
-use Rattle.std.proofs.lemmas.List.{get_or-set_same, get_or-set_other, get_or_past, get_or_append_left, get_or-append_right, get_or-replicate, get_or-map, ext_get_or, length-map}
+use borrow.Rule.Slice.PartMut.{put_mid}
+use Rattle.std.proofs.lemmas.List.{get_or-set_same, get_or-set_other, get_or_past, get_or-take, get_or-drop, get_or_append_left, get_or-append_right, get_or-replicate, get_or-map, ext_get_or, length-map, length-take-le}
 use Rattle.std.proofs.ByRecursion.{All-get_or}
 use Rattle.std.specs.List.{ContainsAt as Has}
-use Rattle.std.proofs.lemmas.Bool.{cases_lt, cond-true, cond-false, and_from, and_left, and_right, eq-eqb, ne_eqb}
+use Rattle.std.proofs.lemmas.Bool.{cases_Bool, cases_lt, eq-eqb, ne_eqb}
 use Rattle.measure.specs.Kind.{Kind}
-use Rattle.measure.proofs.Sums.{some_none, some_injective}
-use Rattle.waterway.specs.Ways.{Walk, stay, along, Water, Sound, Dear}
+use Rattle.measure.proofs.Sums.{some_none}
+use Rattle.waterway.specs.Ways.{Water, Sound, Dear}
 use Rattle.waterway.specs.Counts.{Counts}
 use Rattle.waterway.specs.Hosts.{Host as Nearest, InBall as Inside}
-use Rattle.waterway.proofs.Bills as bills
 use Rattle.waterway.specs.Near.{none, then, NearTable, blank as blank_row}
 use Rattle.waterway.proofs.Counted.{has_cases}
 use Rattle.waterway.proofs.Balls as balls_are
 use Rattle.waterway.proofs.Hosts as hosts_are
 use Rattle.bundling.specs.declared.Host.{Host}
 use Rattle.bundling.specs.declared.Near.{Near}
-use Rattle.bundling.specs.Marks.{no_host, host_at, pivot_in, host_in, away_in}
-use Rattle.relaxing.specs.Search.{Housed, Balled, near_at}
-use Rattle.hosts.specs.Local.{pivot_of, pair, HostMade, HostRow, HostsMade, RowsBlank}
-use Rattle.bundling.proofs.Queue.{true_false, either_way}
+use Rattle.bundling.specs.Marks.{no_host, host_at, is_at, cost_of, pivot_in, host_in, away_in}
+use Rattle.relaxing.specs.Search.{Housed, Balled, near_at, ball_in}
+use Rattle.relaxing.proofs.Voyage.{counts_moved}
+use Rattle.hosts.specs.Local.{pivot_of, pair, row, HostMade, HostRow, HostsMade, RowsBlank}
+use Rattle.bundling.proofs.Queue.{true_false}
 use Rattle.bundling.proofs.Pivots.{is_true}
-use Rattle.hosts.proofs.Nearing.{made_pivot, nearest_same}
+use Rattle.bundling.proofs.Written.{either_option, cost_some}
+use Rattle.hosts.proofs.Nearing.{hosted_in, made_pivot}
 
 module _ {C : Type 0} {K : Kind C} {W : Water K} {n : ℕ} {pivots : List Bool} (hosts : List (Host C)) (near near' : List (Near C)) (i at : ℕ) (r : Host C) where
   pub hosts_more : i < length hosts → length near' ≡ length near → HostsMade W n pivots hosts near i at → HostMade W n pivots i at near near' r → HostsMade W n pivots (set hosts i r) near' (i + 1) r.end
@@ -122,80 +124,83 @@ module _ {C : Type 0} {K : Kind C} {W : Water K} {n : ℕ} (S : Sound W n) (dear
   none_past : (v : ℕ) → n ≤ v → host_at K hosts v ≡ no_host K
   none_past v past = get_or_past hosts v (no_host K) (omega arith)
 
-  known_host : (v : ℕ) → v < n → (host_at K hosts v).known ≡ true → Nearest W n (pivot_of pivots) v (host_at K hosts v).mark (host_at K hosts v).cost
+  known_host : (v : ℕ) → v < n → {p : Near C} → (host_at K hosts v).pivot ≡ Some p → Nearest W n (pivot_of pivots) v p.mark p.cost
   known_host v lt k = rw k at (made.each v lt).host
 
-  unknown_host : (v : ℕ) → v < n → (host_at K hosts v).known ≡ false → (u : ℕ) (c : C) → Nearest W n (pivot_of pivots) v u c → ⊥
+  unknown_host : (v : ℕ) → v < n → (host_at K hosts v).pivot ≡ None → (u : ℕ) (c : C) → Nearest W n (pivot_of pivots) v u c → ⊥
   unknown_host v lt k = rw k at (made.each v lt).host
-
-  beyond : {u v : ℕ} {ks ms : List ℕ} → Walk W.legs u v ks ms → n ≤ u → u ≡ v
-  beyond stay out = refl
-  beyond (along j p) out = absurd (omega (arith, bills.joins_in S j))
 
   pub same_pivots : (p : ℕ) → pivot_in K hosts p ≡ pivot_of pivots p
   unfolding pivot_in
   same_pivots p = elim (cases_lt p n) [
-    | inr past ↦ and_left _ _ (ap (λ (z : Host C). z.known) (none_past p past)) ∙ sym (get_or_past pivots p false (omega arith))
-    | inl lt ↦ elim (either_way (pivot_of pivots p)) [
+    | inr past ↦ ap (λ (z : Host C). is_at z.pivot p) (none_past p past) ∙ sym (get_or_past pivots p false (omega arith))
+    | inl lt ↦ elim (cases_Bool (pivot_of pivots p)) [
       | inl is ↦ (let own = (made_pivot S dear pivots p lt 0 near is).host in
-          elim (either_way (host_at K hosts p).known) [
-            | inl k ↦ and_from _ _ k (eq-eqb (host_at K hosts p).mark p (hosts_are.host_unique S (pivot_of pivots) (known_host p lt k) own).0) ∙ sym is
-            | inr k ↦ absurd (unknown_host p lt k p K.zero own)
+          elim (either_option (host_at K hosts p).pivot) [
+            | inl k ↦ absurd (unknown_host p lt k p K.zero own)
+            | inr k ↦ ap (λ o. is_at o p) k.1 ∙ (eq-eqb k.0.mark p (hosts_are.host_unique S (pivot_of pivots) (known_host p lt k.1) own).0 ∙ sym is)
           ])
-      | inr is ↦ elim (either_way (host_at K hosts p).known) [
-        | inl k ↦ and_right _ _ (ne_eqb (host_at K hosts p).mark p (λ e. let t = (known_host p lt k).is_pivot in true_false (is_true _ (rw e at t)) is)) ∙ sym is
-        | inr k ↦ and_left _ _ k ∙ sym is
+      | inr is ↦ elim (either_option (host_at K hosts p).pivot) [
+        | inl k ↦ ap (λ o. is_at o p) k ∙ sym is
+        | inr k ↦ ap (λ o. is_at o p) k.1
+            ∙ (ne_eqb k.0.mark p (λ e. let t = (known_host p lt k.1).is_pivot in true_false (is_true _ (rw e at t)) is) ∙ sym is)
       ]
     ]
   ]
 
-  turn : pivot_of pivots ≡ pivot_in K hosts
-  turn = sym (fun_ext same_pivots)
+  turn : pivot_in K hosts ≡ pivot_of pivots
+  turn = fun_ext same_pivots
 
-  away_known : (v : ℕ) (c : C) → away_in K hosts v ≡ Some c → ((host_at K hosts v).known ≡ true) × (((host_at K hosts v).cost ≡ c) × ((host_at K hosts v).mark ≡ host_in K hosts v))
+  away_known : (v : ℕ) (c : C) → away_in K hosts v ≡ Some c → (host_at K hosts v).pivot ≡ Some (row (host_in K hosts v) c)
   unfolding away_in host_in
-  away_known v c e = elim (either_way (host_at K hosts v).known) [
-    | inl k ↦ (k, (some_injective (cond-true (host_at K hosts v).known (Some (host_at K hosts v).cost) None k) e, sym (cond-true (host_at K hosts v).known (host_at K hosts v).mark v k)))
-    | inr k ↦ some_none e (cond-false (host_at K hosts v).known (Some (host_at K hosts v).cost) None k)
-  ]
+  away_known v c e = cost_some (host_at K hosts v).pivot v e
 
-  away_unknown : (v : ℕ) → away_in K hosts v ≡ None → (host_at K hosts v).known ≡ false
+  away_unknown : (v : ℕ) → away_in K hosts v ≡ None → (host_at K hosts v).pivot ≡ None
   unfolding away_in
-  away_unknown v e = elim (either_way (host_at K hosts v).known) [
-    | inl k ↦ some_none (cond-true (host_at K hosts v).known (Some (host_at K hosts v).cost) None k) e
-    | inr k ↦ k
-  ]
+  away_unknown v e = elim (either_option (host_at K hosts v).pivot) [ inl k ↦ k | inr k ↦ some_none (ap cost_of k.1) e ]
 
-  known_in : (v : ℕ) → (host_at K hosts v).known ≡ true → v < n
-  known_in v k = elim (cases_lt v n) [ inl lt ↦ lt | inr past ↦ true_false k (ap (λ (z : Host C). z.known) (none_past v past)) ]
-
-  nearest_turned : {P Q : ℕ → Bool} {v u : ℕ} {c : C} → P ≡ Q → Nearest W n P v u c → Nearest W n Q v u c
-  nearest_turned e N = rw e at N
-
-  inside_turned : {P Q : ℕ → Bool} {v w : ℕ} {d : C} → P ≡ Q → Inside W n P v w d → Inside W n Q v w d
-  inside_turned e N = rw e at N
+  known_in : (v : ℕ) {p : Near C} → (host_at K hosts v).pivot ≡ Some p → v < n
+  known_in v k = elim (cases_lt v n) [ inl lt ↦ lt | inr past ↦ some_none k (ap (λ (z : Host C). z.pivot) (none_past v past)) ]
 
   pub all_housed : Housed W n hosts
   all_housed = record {
     long = long;
-    some = λ v c e. let k = away_known v c e in nearest_turned turn (nearest_same (known_host v (known_in v k.0) k.0) k.1.1 k.1.0);
-    none = λ v u c e N. elim (cases_lt v n) [
-      | inl lt ↦ unknown_host v lt (away_unknown v e) u c (nearest_turned (sym turn) N)
-      | inr past ↦ omega (arith, beyond N.dist.way.walk past, N.inside)
-    ];
+    some = λ v c e. let k = away_known v c e in rw turn (known_host v (known_in v k) k);
+    none = λ v u c e N. unknown_host v (hosted_in S N) (away_unknown v e) u c (rw turn at N);
   }
 
-  row_in : (v j : ℕ) → (host_at K hosts v).start ≤ j → j < (host_at K hosts v).end → v < n
-  row_in v j lo hi = elim (cases_lt v n) [ inl lt ↦ lt | inr past ↦ absurd (omega (arith, ap (λ (z : Host C). z.end) (none_past v past))) ]
+  -- the ball of a mark is what was written of it
+  ball_long : (v : ℕ) → length (ball_in K hosts near v) ≡ min ((host_at K hosts v).end - (host_at K hosts v).start) (length near - (host_at K hosts v).start)
+  ball_long v = length-take ((host_at K hosts v).end - (host_at K hosts v).start) (drop (host_at K hosts v).start near)
+      ∙ ap (min ((host_at K hosts v).end - (host_at K hosts v).start)) (length-drop (host_at K hosts v).start near)
 
-  ball_row : (v j : ℕ) → (host_at K hosts v).start ≤ j → j < (host_at K hosts v).end → Inside W n (pivot_of pivots) v (near_at K near j).mark (near_at K near j).cost
-  ball_row v j lo hi =
-      let m = made.each v (row_in v j lo hi) in
-      let k = j - (host_at K hosts v).start in
-      let lt : k < length m.rows = omega (arith, m.ends) in
-      let is = m.stand.each k j (omega arith) lt (omega (arith, m.fits)) in
-      let B = All-get_or (λ (z : ℕ × C). Inside W n (pivot_of pivots) v z.0 z.1) m.rows k (0, K.zero) lt m.ball.costs in
-      subst (λ (z : ℕ × C). Inside W n (pivot_of pivots) v z.0 z.1) (sym is) B
+  row_in : (v : ℕ) {j : ℕ} → j < length (ball_in K hosts near v) → v < n
+  row_in v lt = elim (cases_lt v n) [ inl in_it ↦ in_it | inr past ↦ absurd (omega (arith, lt, ball_long v, ap (λ (z : Host C). z.end) (none_past v past))) ]
+
+  rows_are : (v : ℕ) (v_in : v < n) (j : ℕ) → j < length (made.each v v_in).rows
+      → (j < length (ball_in K hosts near v)) × (pair (near_at K (ball_in K hosts near v) j) ≡ get_or (made.each v v_in).rows j (0, K.zero))
+  rows_are v v_in j lt =
+      let m = made.each v v_in in
+      let s = (host_at K hosts v).start in
+      let in_it : j < (host_at K hosts v).end - s = omega (arith, m.ends, lt) in
+      let z : Near C = record { mark = 0; cost = K.zero } in (
+        omega (arith, ball_long v, in_it, m.fits, m.ends),
+        ap pair (get_or-take ((host_at K hosts v).end - s) (drop s near) j z in_it ∙ get_or-drop s near j z) ∙ m.stand.each j (s + j) refl lt (omega (arith, m.ends, m.fits, lt)),
+      )
+
+  row_stands : (v : ℕ) (v_in : v < n) (w : ℕ) → Has (map (λ r. r.0) (made.each v v_in).rows) w → (j : ℕ) × (j < length (ball_in K hosts near v)) × ((near_at K (ball_in K hosts near v) j).mark ≡ w)
+  row_stands v v_in w h =
+      let r = row_of (made.each v v_in).rows w (0, K.zero) h in
+      let is = rows_are v v_in r.0 r.1 in
+      (r.0, is.0, ap (λ (z : ℕ × C). z.0) is.1 ∙ r.2)
+
+  ball_row : (v j : ℕ) → j < length (ball_in K hosts near v) → Inside W n (pivot_of pivots) v (near_at K (ball_in K hosts near v) j).mark (near_at K (ball_in K hosts near v) j).cost
+  ball_row v j hi =
+      let v_in = row_in v hi in
+      let m = made.each v v_in in
+      let lt : j < length m.rows = omega (arith, hi, ball_long v, m.ends) in
+      let B = All-get_or (λ (z : ℕ × C). Inside W n (pivot_of pivots) v z.0 z.1) m.rows j (0, K.zero) lt m.ball.costs in
+      subst (λ (z : ℕ × C). Inside W n (pivot_of pivots) v z.0 z.1) (sym (rows_are v v_in j lt).1) B
 
   pub all_balled : Balled W n hosts near
   all_balled = record {
@@ -203,16 +208,12 @@ module _ {C : Type 0} {K : Kind C} {W : Water K} {n : ℕ} (S : Sound W n) (dear
       | inl lt ↦ (let m = made.each v lt in (omega (arith, m.ends), omega (arith, m.fits)))
       | inr past ↦ rw (none_past v past) (omega arith, omega arith)
     ];
-    inside = λ v j lo hi. balls_are.ball_marks S (pivot_of pivots) ((near_at K near j).cost, ball_row v j lo hi) (row_in v j lo hi);
-    only = λ v j lo hi. inside_turned turn (ball_row v j lo hi);
-    every = λ v w d B. elim (cases_lt v n) [
-      | inl lt ↦ (let m = made.each v lt in
-          let B' = inside_turned (sym turn) B in
-          let row = row_of m.rows w (0, K.zero) (m.ball.members.every w (balls_are.ball_marks S (pivot_of pivots) (d, B') lt) (d, B')) in
-          let j = (host_at K hosts v).start + row.0 in
-          (j, omega arith, omega (arith, row.1, m.ends), ap (λ (z : ℕ × C). z.0) (m.stand.each row.0 j refl row.1 (omega (arith, row.1, m.ends, m.fits))) ∙ row.2))
-      | inr past ↦ absurd (omega (arith, beyond B.is_host.dist.way.walk past, B.is_host.inside))
-    ];
+    inside = λ v j hi. balls_are.ball_marks S (pivot_of pivots) ((near_at K (ball_in K hosts near v) j).cost, ball_row v j hi) (row_in v hi);
+    only = λ v j hi. rw turn (ball_row v j hi);
+    every = λ v w d B.
+        let lt = hosted_in S B.is_host in
+        let B' = rw turn at B in
+        row_stands v lt w ((made.each v lt).ball.members.every w (balls_are.ball_marks S (pivot_of pivots) (d, B') lt) (d, B'));
   }
 
 pub made_moved : {C : Type 0} {K : Kind C} {W : Water K} {n m : ℕ} {pivots : List Bool} {v first : ℕ} {near near' : List (Near C)} {r : Host C} → HostMade W n pivots v first near near' r → n ≡ m → HostMade W m pivots v first near near' r
@@ -222,21 +223,43 @@ pub all_made : {C : Type 0} {K : Kind C} {W : Water K} {n i m : ℕ} {pivots : L
 all_made s e = rw e at s
 
 pub counts_as : {P Q : ℕ → Type 0} {n m c d : ℕ} → Counts P n c → n ≡ m → d ≡ c → ((p : ℕ) → P p → Q p) → ((p : ℕ) → Q p → P p) → Counts Q m d
-counts_as {P} {Q} {n} {m} {c} {d} k e f to from =
+counts_as k e f to from =
     let l = k.lists in
-    let all : Counts Q n c = record {
+    counts_moved (record {
       those = k.those;
       lists = record { rising = l.rising; only = λ x h. let o = l.only x h in (o.0, to x o.1); every = λ x lt q. l.every x lt (from x q) };
       many = k.many;
-    } in
-    rw f (rw e at all)
+    }) e f
 
-module _ {C : Type 0} (K : Kind C) (near near' : List (Near C)) (start i : ℕ) where
-  pub blank_more : (z : C) → z ≡ K.zero → start ≤ i → i < length near' → RowsBlank K near near' start i → RowsBlank K near (set near' i (record { mark = 65535; cost = z })) start (i + 1)
-  blank_more z e run lt done = record {
-    before = λ j less. get_or-set_other near' i j (record { mark = 65535; cost = z }) (record { mark = 0; cost = K.zero }) (λ f. omega (arith, f)) ∙ done.before j less;
-    blank = λ j lo hi. elim (ℕ_discrete j i) [
-      | yes f ↦ rw (f, get_or-set_same near' i (record { mark = 65535; cost = z }) (record { mark = 0; cost = K.zero }) lt, e)
-      | no f ↦ ap pair (get_or-set_other near' i j (record { mark = 65535; cost = z }) (record { mark = 0; cost = K.zero }) f) ∙ done.blank j lo (omega arith)
+-- rows that are filled from `start` on
+module _ {C : Type 0} (K : Kind C) (near rows : List (Near C)) (start from : ℕ) (from_is : from ≡ min start (length near))
+    {k : ℕ} (is : rows ≡ replicate k (record { mark = 65535; cost = K.zero })) (k_is : k ≡ length near - from) where
+  abbrev no_row : Near C
+  no_row = record { mark = 0; cost = K.zero }
+
+  abbrev filled : List (Near C)
+  filled = put_mid from (length near - from) near rows
+
+  many : length rows ≡ length near - from
+  many = ap length is ∙ (length-replicate k (record { mark = 65535; cost = K.zero }) ∙ k_is)
+
+  before_long : length (take from near) ≡ from
+  before_long = length-take-le from near (omega (arith, from_is))
+
+  filled_long : length filled ≡ length near
+  filled_long =
+      let rest = drop (length near - from) (drop from near) in
+      omega (arith, from_is, before_long, many, length-append (take from near) (rows ++ rest), length-append rows rest, length-drop (length near - from) (drop from near), length-drop from near)
+
+  pub rows_blank : RowsBlank K near filled start (length filled)
+  rows_blank = record {
+    before = λ j lt. elim (dec_lt j from) [
+      | yes less ↦ get_or_append_left (take from near) (rows ++ drop (length near - from) (drop from near)) no_row j (omega (arith, before_long)) ∙ get_or-take from near j no_row less
+      | no past ↦ get_or_past filled j no_row (omega (arith, filled_long, from_is)) ∙ sym (get_or_past near j no_row (omega (arith, from_is)))
     ];
+    blank = λ j lo hi.
+        let rest = drop (length near - from) (drop from near) in
+        let in_it : j - from < length rows = omega (arith, hi, filled_long, many, from_is) in
+        ap pair (get_or-append_right (take from near) (rows ++ rest) from j no_row before_long (omega (arith, from_is, lo))
+        ∙ (get_or_append_left rows rest no_row (j - from) in_it ∙ rw is (get_or-replicate k (j - from) (record { mark = 65535; cost = K.zero }) no_row (omega (arith, in_it, many, k_is)))));
   }

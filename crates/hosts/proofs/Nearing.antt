@@ -1,22 +1,24 @@
 -- The nearest pivot and the ball, from labels that are right round a mark.
-use Rattle.std.proofs.Common.{◌≡◌, ℕ, ◌+◌, ◌<◌, ◌≤◌, Bool, true, false, List, [], ◌∷◌, ◌++◌, length, set, Some, None, Option, sym, refl, ap, ◌∙◌, inl, inr, arith, length-append}
+use Rattle.std.proofs.Common.{◌≡◌, ℕ, ◌+◌, ◌<◌, Bool, true, false, List, [], ◌∷◌, ◌++◌, length, Some, None, Option, sym, refl, ap, ◌∙◌, inl, inr, arith, length-append}
 use native.Mathlib.Decide.{ℕ_discrete, dec_lt}
-use Rattle.std.proofs.lemmas.List.{get_or-set_same, get_or-set_other, get_or_append_left, get_or_push, map-append}
+use Rattle.std.proofs.lemmas.List.{get_or_append_left, get_or_push, map-append}
 use Rattle.std.proofs.ByRecursion.{All-push, All-weaker}
 use Rattle.measure.specs.Kind.{Kind, Lawful, AtMost}
-use Rattle.measure.proofs.Sums.{some_none, some_injective, zero_at_most, at_most_eq, at_most_below, at_most_trans, at_most_antisym, below_or, at_most_then_below}
+use Rattle.measure.proofs.Sums.{some_none, some_injective, at_most_eq, at_most_below, at_most_trans, at_most_antisym, below_or, at_most_then_below}
 use Rattle.waterway.specs.Ways.{Water, Sound, Dear}
 use Rattle.waterway.specs.Hosts.{Host as Nearest, InBall as Inside}
+use Rattle.waterway.proofs.Bills as bills
+use Rattle.waterway.proofs.Walks.{walk_turned}
 use Rattle.waterway.proofs.Hosts as hosts_are
-use Rattle.waterway.proofs.Metric as metric
 use Rattle.waterway.specs.declared.Label.{Label}
 use Rattle.bundling.specs.declared.Near.{Near}
 use Rattle.waterway.specs.Labels.{label_of}
-use Rattle.hosts.specs.Local.{pivot_of, UptoPivots, Around, row, Closer, NearestOf, Written, RowWritten, HostMade, pair}
+use Rattle.hosts.specs.Local.{pivot_of, own, UptoPivots, Around, row, Beats, Closer, NearestOf, Written, RowWritten, HostMade, pair}
 use Rattle.relaxing.specs.Search.{near_at}
 use Rattle.bundling.proofs.Listed.{lists_none, lists_push, lists_skip}
 use Rattle.bundling.proofs.Queue.{true_false}
-use Rattle.bundling.proofs.Pivots.{holds, is_true}
+use Rattle.std.proofs.lemmas.Float.{T_from_true as holds}
+use Rattle.bundling.proofs.Pivots.{is_true}
 
 module _ {C : Type 0} {K : Kind C} (L : Lawful K) (pivots : List Bool) (labels : List (Label C)) (i : ℕ) where
   keep : (best : Option (Near C)) → NearestOf K pivots labels i best
@@ -63,9 +65,17 @@ module _ {C : Type 0} {K : Kind C} (L : Lawful K) (pivots : List Bool) (labels :
   nearest_more best next h (inl c) = rw c.0 (keep best h c.1)
   nearest_more best next h (inr c) = rw c.3 (take best c.0 h c.1 c.2 c.4)
 
+module _ {C : Type 0} (K : Kind C) (best : Option (Near C)) (pivot : Bool) {o : Option C} (v : ℕ) {c : C} (is : o ≡ Some c) where
+  pub closer_keeps : (Beats K best c → ⊥) → Closer K best pivot o v best
+  closer_keeps not_beaten = inl (refl, λ d piv e. beaten best not_beaten d (some_injective e is))
+    where
+      beaten : (best : Option (Near C)) → (Beats K best c → ⊥) → (d : C) → d ≡ c → (b : Near C) × ((best ≡ Some b) × AtMost K b.cost d)
+      beaten None h d f = absurd (h tt)
+      beaten (Some b) h d f = (b, (refl, rw f h))
+
 -- the rows of one more mark
 module _ {C : Type 0} {K : Kind C} (labels : List (Label C)) (near a b : List (Near C)) (first at i : ℕ) (rim : C) where
-  pub rows_more : (next : ℕ) → length b ≡ length a → Written K labels near a first at i rim → RowWritten K labels a b at i rim next → Written K labels near b first next (i + 1) rim
+  pub rows_more : (next : ℕ) → length b ≡ length a → Written K labels near a first at i rim → RowWritten K (label_of K labels i) a b at i rim next → Written K labels near b first next (i + 1) rim
   rows_more next long w (inl r) = record {
     rows = w.rows;
     inner = record { members = lists_skip w.inner.members refl (λ p. r.1.1 p.0 p.1 p.2); costs = w.inner.costs };
@@ -96,15 +106,9 @@ module _ {C : Type 0} {K : Kind C} (labels : List (Label C)) (near a b : List (N
         };
       }
 
-module _ {C : Type 0} (K : Kind C) (labels : List (Label C)) (near : List (Near C)) (at w : ℕ) (d rim : C) where
-  pub row_put : at < length near → label_of K labels w ≡ Some d → K.Below d rim → RowWritten K labels near (set near at (row w d)) at w rim (at + 1)
-  row_put lt is below = inr (d, refl, is, below, λ j ne. get_or-set_other near at j (row w d) (record { mark = 0; cost = K.zero }) ne, λ in_it. get_or-set_same near at (row w d) (record { mark = 0; cost = K.zero }) lt)
-
-  pub row_none : ((d' : C) → label_of K labels w ≡ Some d' → K.Below d' rim → ⊥) → RowWritten K labels near near at w rim at
-  row_none none = inl (refl, (λ j. refl, none))
-
-  pub row_past : length near ≤ at → label_of K labels w ≡ Some d → K.Below d rim → RowWritten K labels near near at w rim (at + 1)
-  row_past past is below = inr (d, refl, is, below, λ j ne. refl, λ in_it. absurd (omega arith))
+-- what has a host is a mark
+pub hosted_in : {C : Type 0} {K : Kind C} {W : Water K} {n : ℕ} (S : Sound W n) {pivot : ℕ → Bool} {v u : ℕ} {c : C} → Nearest W n pivot v u c → v < n
+hosted_in S H = bills.walk_ends S (walk_turned H.dist.way.walk) H.inside
 
 pub nearest_same : {C : Type 0} {K : Kind C} {W : Water K} {n : ℕ} {pivot : ℕ → Bool} {v u u' : ℕ} {c c' : C} → Nearest W n pivot v u c → u ≡ u' → c ≡ c' → Nearest W n pivot v u' c'
 nearest_same N e f = rw f at (rw e at N)
@@ -171,17 +175,9 @@ module _ {C : Type 0} {K : Kind C} {W : Water K} {n : ℕ} (S : Sound W n) (dear
   open S use {lawful as L}
 
   -- a pivot is its own host, and has no ball
-  pub made_pivot : pivot_of pivots v ≡ true → HostMade W n pivots v first near near (record { known = true; mark = v; cost = K.zero; start = first; end = first })
+  pub made_pivot : pivot_of pivots v ≡ true → HostMade W n pivots v first near near (own K v first)
   made_pivot piv = record {
-    host = record {
-      inside = v_in;
-      is_pivot = holds _ piv;
-      dist = metric.dist_self S v;
-      nearest = λ p d lt is D. elim (below_or L K.zero d) [
-        | inl b ↦ inl b
-        | inr b ↦ (let same : v ≡ p = metric.dear_apart S dear (metric.dist_geo S D) b in inr (at_most_antisym L (zero_at_most L d) b, omega (arith, same)))
-      ];
-    };
+    host = hosts_are.host_own S (pivot_of pivots) dear v_in (holds _ piv);
     starts = refl;
     rows = [];
     ball = record { members = lists_none n (λ x lt B. true_false piv B.1.no_pivot); costs = tt };
@@ -192,7 +188,7 @@ module _ {C : Type 0} {K : Kind C} {W : Water K} {n : ℕ} (S : Sound W n) (dear
   }
 
   module _ {labels : List (Label C)} (around : Around W n pivots v labels) (outer : pivot_of pivots v ≡ false) where
-    pub made_none : NearestOf K pivots labels n None → HostMade W n pivots v first near near (record { known = false; mark = 0; cost = K.zero; start = first; end = first })
+    pub made_none : NearestOf K pivots labels n None → HostMade W n pivots v first near near (record { pivot = None; start = first; end = first })
     made_none h = record {
       host = no_host_found S pivots around h;
       starts = refl;
@@ -205,7 +201,7 @@ module _ {C : Type 0} {K : Kind C} {W : Water K} {n : ℕ} (S : Sound W n) (dear
     }
 
     pub made_some : (b : Near C) (near' : List (Near C)) (end : ℕ) → NearestOf K pivots labels n (Some b) → Written K labels near near' first end n b.cost
-        → HostMade W n pivots v first near near' (record { known = true; mark = b.mark; cost = b.cost; start = first; end = end })
+        → HostMade W n pivots v first near near' (record { pivot = Some b; start = first; end = end })
     made_some b near' end h w =
         let H = host_found S pivots around b h in
         record {

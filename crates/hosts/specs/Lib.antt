@@ -1,1 +1,3 @@
 pub mod Local
+pub mod Rounds
+pub mod Made

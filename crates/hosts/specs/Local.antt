@@ -1,5 +1,5 @@
 -- The search round one mark, in which every mark is its own host.
-use Rattle.std.specs.Prelude.{◌≡◌, ℕ, ◌+◌, ◌<◌, ◌≤◌, Bool, true, false, ◌⊎◌, List, map, length, Some, None, MatchBool, Option, ◌≢◌, slice_index_or}
+use Rattle.std.specs.Prelude.{◌≡◌, ℕ, ◌+◌, ◌<◌, ◌≤◌, Bool, true, false, ◌⊎◌, List, map, length, Some, None, Option, ◌≢◌, slice_index_or}
 use Rattle.measure.specs.Kind.{Kind, AtMost}
 use Rattle.std.specs.List.{AllByRecursion}
 use Rattle.waterway.specs.Ways.{Water, Dist}
@@ -13,10 +13,18 @@ use Rattle.waterway.specs.Labels.{label_of}
 use Rattle.bundling.specs.Marks.{host_at}
 use Rattle.relaxing.specs.Search.{Sure, near_at}
 
+-- the row of a mark
+abbrev pub row : {C : Type 0} → ℕ → C → Near C
+row v c = record { mark = v; cost = c }
+
+-- a pivot's own host, whose ball is empty
+abbrev pub own : {C : Type 0} → Kind C → ℕ → ℕ → Host C
+own K v at = record { pivot = Some (row v K.zero); start = at; end = at }
+
 -- each mark is its own host, with an empty ball
 pub record Selves {C : Type 0} (K : Kind C) (selves : List (Host C)) (n : ℕ) : Type 0 where
   pub long : length selves ≡ n
-  pub each : (v : ℕ) → v < n → host_at K selves v ≡ record { known = true; mark = v; cost = K.zero; start = 0; end = 0 }
+  pub each : (v : ℕ) → v < n → host_at K selves v ≡ own K v 0
 
 abbrev pub pivot_of : List Bool → ℕ → Bool
 pivot_of pivots p = slice_index_or pivots p false
@@ -40,8 +48,10 @@ abbrev pub Found : {C : Type 0} {K : Kind C} → Water K → ℕ → List Bool �
 Found W n pivots v None = Unit {0}
 Found W n pivots v (Some h) = (p : ℕ) × (p < n) × (pivot_of pivots p ≡ true) × Dist W v p h
 
-abbrev pub row : {C : Type 0} → ℕ → C → Near C
-row v c = record { mark = v; cost = c }
+-- a cost is below that of the best, or there is none
+abbrev pub Beats : {C : Type 0} → Kind C → Option (Near C) → C → Type 0
+Beats K None c = Unit {0}
+Beats K (Some b) c = K.Below c b.cost
 
 -- the best of the pivots so far, after one more mark v with the label o
 abbrev pub Closer : {C : Type 0} → Kind C → Option (Near C) → Bool → Option C → ℕ → Option (Near C) → Type 0
@@ -78,16 +88,21 @@ pub record Written {C : Type 0} (K : Kind C) (labels : List (Label C)) (near nea
   pub before : (j : ℕ) → j < first → near_at K near' j ≡ near_at K near j
   pub stand : Stand K near' first rows
 
--- one row, or none
-abbrev pub RowWritten : {C : Type 0} → Kind C → List (Label C) → List (Near C) → List (Near C) → ℕ → ℕ → C → ℕ → Type 0
-RowWritten {C} K labels near near' at w rim next =
-    ((next ≡ at) × (((j : ℕ) → near_at K near' j ≡ near_at K near j) × ((d : C) → label_of K labels w ≡ Some d → K.Below d rim → ⊥)))
-    ⊎ ((d : C) × (next ≡ at + 1) × (label_of K labels w ≡ Some d) × (K.Below d rim)
+-- one row of the mark w with the label o, or none
+abbrev pub RowWritten : {C : Type 0} → Kind C → Option C → List (Near C) → List (Near C) → ℕ → ℕ → C → ℕ → Type 0
+RowWritten {C} K o near near' at w rim next =
+    ((next ≡ at) × (((j : ℕ) → near_at K near' j ≡ near_at K near j) × ((d : C) → o ≡ Some d → K.Below d rim → ⊥)))
+    ⊎ ((d : C) × (next ≡ at + 1) × (o ≡ Some d) × (K.Below d rim)
     × ((j : ℕ) → (j ≢ at) → near_at K near' j ≡ near_at K near j) × (at < length near → near_at K near' at ≡ row w d))
+
+-- the pivot is the host of v, or v has none
+abbrev pub IsHost : {C : Type 0} {K : Kind C} → Water K → ℕ → (ℕ → Bool) → ℕ → Option (Near C) → Type 0
+IsHost {C} W n pivot v None = (u : ℕ) (c : C) → Nearest W n pivot v u c → ⊥
+IsHost W n pivot v (Some p) = Nearest W n pivot v p.mark p.cost
 
 -- the host of v and its ball, whose rows are written from `first` on
 pub record HostMade {C : Type 0} {K : Kind C} (W : Water K) (n : ℕ) (pivots : List Bool) (v first : ℕ) (near near' : List (Near C)) (r : Host C) : Type 0 where
-  pub host : MatchBool r.known (Nearest W n (pivot_of pivots) v r.mark r.cost) ((u : ℕ) (c : C) → Nearest W n (pivot_of pivots) v u c → ⊥)
+  pub host : IsHost W n (pivot_of pivots) v r.pivot
   pub starts : r.start ≡ first
   pub rows : List (ℕ × C)
   pub ball : BallRows W n (pivot_of pivots) v rows
@@ -98,7 +113,7 @@ pub record HostMade {C : Type 0} {K : Kind C} (W : Water K) (n : ℕ) (pivots : 
 
 -- the host record of x, whose rows stand in the near table before `bound`
 pub record HostRow {C : Type 0} {K : Kind C} (W : Water K) (n : ℕ) (pivots : List Bool) (near : List (Near C)) (x bound : ℕ) (r : Host C) : Type 0 where
-  pub host : MatchBool r.known (Nearest W n (pivot_of pivots) x r.mark r.cost) ((u : ℕ) (c : C) → Nearest W n (pivot_of pivots) x u c → ⊥)
+  pub host : IsHost W n (pivot_of pivots) x r.pivot
   pub rows : List (ℕ × C)
   pub ball : BallRows W n (pivot_of pivots) x rows
   pub ends : r.end ≡ r.start + length rows

@@ -25,7 +25,7 @@ impl Cost for Tenths {
     }
 
     fn compare(self, other: Tenths) -> Ordering {
-        Ord::cmp(&self.tenths, &other.tenths)
+        self.cmp(&other)
     }
 
     fn size(self) -> u64 {

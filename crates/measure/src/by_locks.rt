@@ -30,10 +30,7 @@ impl Cost for Passage {
     }
 
     fn compare(self, other: Passage) -> Ordering {
-        match self.locks.cmp(&other.locks) {
-            Ordering::Equal => self.length.cmp(&other.length),
-            by_locks => by_locks,
-        }
+        self.cmp(&other)
     }
 
     fn size(self) -> u64 {

@@ -8,27 +8,13 @@ use crate::tenths::Tenths;
 use crate::{Cost, LIMIT, Measure};
 use std::cmp::Ordering;
 
-fn tenths_of(sum: Option<Tenths>) -> Option<u64> {
-    match sum {
-        Some(cost) => Some(cost.tenths),
-        None => None,
-    }
-}
-
-fn parts_of(sum: Option<Passage>) -> Option<(u64, u64)> {
-    match sum {
-        Some(cost) => Some((cost.locks, cost.length)),
-        None => None,
-    }
-}
-
 #[test]
 fn length_counts_tenths(rt: HostRuntime) {
     let near = Length.price(1, 99);
     let far = Length.price(60_000, 0);
     assert_eq!(rt; near.compare(far), Ordering::Less);
     assert_eq!(rt; far.size(), 60_000);
-    assert_eq!(rt; tenths_of(near.sum(far)), Some(60_001));
+    assert_eq!(rt; near.sum(far), Some(Tenths { tenths: 60_001 }));
 }
 
 #[test]
@@ -38,22 +24,28 @@ fn locks_come_before_length(rt: HostRuntime) {
     assert_eq!(rt; long.compare(locked), Ordering::Less);
     assert_eq!(rt; locked.size(), 1);
     assert_eq!(rt; long.size(), 60_000);
-    assert_eq!(rt; parts_of(long.sum(locked)), Some((1, 60_001)));
+    assert_eq!(rt;
+        long.sum(locked),
+        Some(Passage {
+            locks: 1,
+            length: 60_001
+        })
+    );
 }
 
 #[test]
 fn sums_end_at_the_limit(rt: HostRuntime) {
     let one = Length.price(1, 0);
     assert_eq!(rt;
-        tenths_of(Tenths { tenths: LIMIT - 1 }.sum(one)),
-        Some(LIMIT)
+        Tenths { tenths: LIMIT - 1 }.sum(one),
+        Some(Tenths { tenths: LIMIT })
     );
-    assert_eq!(rt; tenths_of(Tenths { tenths: LIMIT }.sum(one)), None);
+    assert_eq!(rt; Tenths { tenths: LIMIT }.sum(one), None);
     let locks = Passage {
         locks: LIMIT,
         length: 0,
     };
-    assert_eq!(rt; parts_of(locks.sum(LocksFirst.price(1, 0))), None);
+    assert_eq!(rt; locks.sum(LocksFirst.price(1, 0)), None);
 }
 
 // The greatest leg of a way in place of the sum.

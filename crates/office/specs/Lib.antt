@@ -1,1 +1,5 @@
+pub mod Commands
+pub mod Lines
 pub mod Numbers
+pub mod Replies
+pub mod Words

@@ -1,22 +1,41 @@
 // The command language: what one line says.
+ghost use Rattle.std.specs.Prelude.{Some, map};
+ghost use Rattle.std.specs.Result.{result_ok};
+ghost use Rattle.office.specs.Commands.{Reads, ReadsLeg};
+ghost use Rattle.office.specs.Numbers.{Whole};
+ghost use Rattle.office.specs.Words.{unit_name, slip_words};
+
 use crate::number::{tenths, whole};
 use calls::Call;
+use std::fmt;
 
-// What a chart counts.
-#[derive(Clone, Copy)]
+// What a chart counts. A script that names none counts miles.
+#[derive(Clone, Copy, Debug, PartialEq, Eq, Default)]
 pub enum Unit {
+    #[default]
     Length,
     Locks,
 }
 
-#[derive(Clone, Copy)]
+impl fmt::Display for Unit {
+    ghost output = { λ unit. Some (unit_name unit) };
+
+    fn fmt<W: fmt::Write>(&self, f: &mut fmt::Formatter<W>) -> fmt::Result {
+        f.write_str(match self {
+            Unit::Length => "length",
+            Unit::Locks => "locks",
+        })
+    }
+}
+
+#[derive(Clone, Copy, Debug, PartialEq, Eq)]
 pub enum Command {
     Measure(Unit),
     Call(Call),
 }
 
 // What is wrong with a line that is no command.
-#[derive(Clone, Copy)]
+#[derive(Clone, Copy, Debug, PartialEq, Eq)]
 pub enum Slip {
     NoCommand,
     // The command is written in another form.
@@ -24,15 +43,28 @@ pub enum Slip {
     MeasureNotFirst,
 }
 
-// The command that the words of a line say.
-pub fn parse(words: &[&str]) -> Result<Command, Slip> {
-    let Some(command) = command_of(words) else {
-        return Err(slip_of(words));
-    };
-    Ok(command)
+impl fmt::Display for Slip {
+    ghost output = { λ slip. Some (slip_words slip) };
+
+    fn fmt<W: fmt::Write>(&self, f: &mut fmt::Formatter<W>) -> fmt::Result {
+        match self {
+            Slip::NoCommand => write!(f, "no such command"),
+            Slip::Form(form) => write!(f, "write it as: {form}"),
+            Slip::MeasureNotFirst => write!(f, "measure must be the first command"),
+        }
+    }
 }
 
-fn command_of(words: &[&str]) -> Option<Command> {
+// The command that the words of a line say.
+pub fn parse(words: &[&str]) -> Result<Command, Slip>
+    ensures { Reads (map (λ word. word.now) words.now) (result_ok result) }
+{
+    command_of(words).ok_or_else(|| slip_of(words))
+}
+
+fn command_of(words: &[&str]) -> Option<Command>
+    ensures { Reads (map (λ word. word.now) words.now) result }
+{
     Some(match words {
         ["measure", "length"] => Command::Measure(Unit::Length),
         ["measure", "locks"] => Command::Measure(Unit::Locks),
@@ -47,7 +79,9 @@ fn command_of(words: &[&str]) -> Option<Command> {
     })
 }
 
-fn leg_of(a: &str, b: &str, miles: &str, locks: &str) -> Option<Call> {
+fn leg_of(a: &str, b: &str, miles: &str, locks: &str) -> Option<Call>
+    ensures { ReadsLeg a.now b.now miles.now locks.now result }
+{
     Some(Call::EnterLeg {
         a: number_of(a)?,
         b: number_of(b)?,
@@ -57,7 +91,9 @@ fn leg_of(a: &str, b: &str, miles: &str, locks: &str) -> Option<Call> {
 }
 
 // The number of a mark or a leg. No chart has one with the largest number of the type.
-fn number_of(word: &str) -> Option<u16> {
+fn number_of(word: &str) -> Option<u16>
+    ensures { Whole 16 word.now result }
+{
     Some(u16::try_from(whole(word)?).unwrap_or(u16::MAX))
 }
 

@@ -1,24 +1,20 @@
 // The numbers of the command language.
+ghost use Rattle.std.specs.Prelude.{◌↔◌, IsTrue};
+ghost use Rattle.std.specs.Str.Parse.{IsNumeral};
 ghost use Rattle.office.specs.Numbers.{Whole, Tenths, WithTenth};
 
 // A whole number. One that is too large for the type counts as the largest.
 pub fn whole(word: &str) -> Option<u32>
-    ensures { Whole word.now result }
+    ensures { Whole 32 word.now result }
 {
-    let digits = word.as_bytes();
-    if digits.is_empty() {
-        return None;
-    }
-    let mut number: u32 = 0;
-    for digit in digits {
-        if !digit.is_ascii_digit() {
-            return None;
-        }
-        number = number
-            .saturating_mul(10)
-            .saturating_add(u32::from(*digit - b'0'));
-    }
-    Some(number)
+    is_numeral(word).then(|| word.parse().unwrap_or(u32::MAX))
+}
+
+// Whether the word is digits alone.
+fn is_numeral(word: &str) -> bool
+    ensures { IsTrue result ↔ IsNumeral 10 word.now }
+{
+    !word.is_empty() && word.bytes().all(|byte| byte.is_ascii_digit())
 }
 
 // Miles in tenths, with at most one digit after the point.
@@ -37,9 +33,6 @@ fn with_tenth(miles: &str, tenth: &str) -> Option<u32>
     if tenth.len() != 1 {
         return None;
     }
-    Some(
-        whole(miles)?
-            .saturating_mul(10)
-            .saturating_add(whole(tenth)?),
-    )
+    let miles = whole(miles)?.saturating_mul(10);
+    Some(miles.saturating_add(whole(tenth)?))
 }

@@ -12,7 +12,7 @@ use Rattle.waterway.proofs.Bills as bills
 use Rattle.waterway.proofs.Bills.{bill}
 use Rattle.waterway.proofs.Cuts as cuts
 use Rattle.waterway.proofs.Metric as metric
-use Rattle.waterway.proofs.Written.{within_lower, lower_refl, lower_trans}
+use Rattle.waterway.proofs.Written.{within_lower, lower_trans}
 use Rattle.plain.specs.Relaxing.{Lowered, Relaxed, LegRelaxed, Trail, at_home, Sure, Round}
 use Rattle.plain.proofs.Trails as trails
 
@@ -24,9 +24,6 @@ module _ {C : Type 0} {K : Kind C} {W : Water K} {n home : ℕ} (S : Sound W n) 
   open S use {lawful as L}
 
   -- One round, leg by leg
-
-  pub round_none : {label : ℕ → Option C} → Sure W home label → Round W 0 home label label
-  round_none {label} s = record { sure = s; lower = lower_refl L label; offered = λ k u w c d lt. absurd (omega arith) }
 
   pub round_more : {m : ℕ} {label now label' : ℕ → Option C} → m < length W.legs → Round W m home label now → LegRelaxed K now label' (leg_at W.legs m) (toll W m)
       → Round W (m + 1) home label label'

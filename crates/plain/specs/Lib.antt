@@ -1,3 +1,2 @@
-pub mod Lies
 pub mod Relaxing
 pub mod Answers

@@ -1,16 +1,14 @@
 // The plain search: from home the labels of all marks come down to the distances, by rounds of relaxation over all legs.
 #![tactic(auto)]
 
-ghost use Rattle.std.specs.Prelude.{◌≡◌, ℕ, ◌<◌, ◌≤◌, length, Some, None, Decides};
-ghost use Rattle.waterway.specs.Labels.{Within, label_of, told};
-ghost use Rattle.waterway.specs.Priced.{Charted, water};
+ghost use Rattle.std.specs.Prelude.{ℕ, ◌<◌, length, Some, Decides};
+ghost use Rattle.waterway.specs.Labels.{Clean, Within, label_of, told};
+ghost use Rattle.waterway.specs.Priced.{AllLie, Charted, Lies, water};
 ghost use Rattle.plain.specs.Answers.{Answers};
-ghost use Rattle.plain.specs.Lies.{AllLie, Lies};
 ghost use Rattle.plain.specs.Relaxing.{LegRelaxed, Lowered, Relaxed, Round, Sure};
 
 use measure::{Cost, Measure};
-use std::cmp::Ordering;
-use waterway::{Label, Leg};
+use waterway::{Label, Leg, blank_labels, is_legal};
 
 #[cfg(test)]
 mod tests;
@@ -24,56 +22,36 @@ pub enum Refusal {
 }
 
 // Whether a leg is legal, and both its ends are marks.
-fn lies(leg: Leg, marks: usize) -> bool
-    ensures { Decides result (Lies marks leg) }
+fn lies(leg: &Leg, marks: usize) -> bool
+    ensures { Decides result (Lies marks leg.now) }
 {
-    let legal = 1 <= leg.length && leg.length <= 60_000 && leg.locks <= 99;
-    legal && (leg.from as usize) < marks && (leg.to as usize) < marks
+    is_legal(leg.length, leg.locks) && usize::from(leg.from) < marks && usize::from(leg.to) < marks
 }
 
 // Whether all legs are so.
 pub fn all_lie(legs: &[Leg], marks: usize) -> bool
     ensures { Decides result (AllLie marks legs.now) }
 {
-    for leg in legs {
-        if !lies(*leg, marks) {
-            return false;
-        }
-    }
-    true
-}
-
-// Leaves every label saying that nothing is known.
-fn blank<C: Cost>(labels: &mut [Label<C>])
-    ensures { (v : ℕ) → label_of C.Cost.kind labels.new v ≡ None }
-{
-    for label in labels.iter_mut() {
-        *label = Label {
-            known: false,
-            cost: C::zero(),
-        };
-    }
+    legs.iter().all(|leg| lies(leg, marks))
 }
 
 // Whether a label is there, and not above a cost.
 fn is_within<C: Cost>(label: Label<C>, cost: C) -> bool
     ensures { Decides result (Within C.Cost.kind (told label) cost) }
 {
-    if !label.known {
-        return false;
-    }
-    match cost.compare(label.cost) {
-        Ordering::Less => false,
-        _ => true,
-    }
+    label
+        .told()
+        .is_some_and(|known| !cost.compare(known).is_lt())
 }
 
 // Lowers the label of a mark to a cost, unless it is there and not above.
+// Not shared with the search that has a queue: the plain one stands by itself, as what that one is held against.
 fn lower<C: Cost>(labels: &mut [Label<C>], mark: u16, cost: C)
     requires { mark < length labels.old }
-    ensures { Lowered C.Cost.kind (label_of C.Cost.kind labels.old) (label_of C.Cost.kind labels.new) mark cost }
+    ensures clean { Clean C.Cost.kind labels.old → Clean C.Cost.kind labels.new }
+    ensures lowered { Lowered C.Cost.kind (label_of C.Cost.kind labels.old) (label_of C.Cost.kind labels.new) mark cost }
 {
-    let at = mark as usize;
+    let at = usize::from(mark);
     if !is_within(labels[at], cost) {
         labels[at] = Label { known: true, cost };
     }
@@ -82,21 +60,20 @@ fn lower<C: Cost>(labels: &mut [Label<C>], mark: u16, cost: C)
 // Offers to y what it costs from the label of x at a price.
 fn relax<C: Cost>(labels: &mut [Label<C>], x: u16, y: u16, price: C)
     requires { (x < length labels.old) × (y < length labels.old) }
-    ensures { Relaxed C.Cost.kind (label_of C.Cost.kind labels.old) (label_of C.Cost.kind labels.new) x y price }
+    ensures clean { Clean C.Cost.kind labels.old → Clean C.Cost.kind labels.new }
+    ensures relaxed { Relaxed C.Cost.kind (label_of C.Cost.kind labels.old) (label_of C.Cost.kind labels.new) x y price }
 {
-    let label = labels[x as usize];
-    if !label.known {
-        return;
-    }
-    if let Some(cost) = label.cost.sum(price) {
+    let label = labels[usize::from(x)];
+    if let Some(cost) = label.told().and_then(|known| known.sum(price)) {
         lower(labels, y, cost);
     }
 }
 
 // Offers to each end of an open leg what it costs from the other.
-fn relax_leg<C: Cost>(labels: &mut [Label<C>], leg: Leg, price: C)
-    requires { (leg.from < length labels.old) × (leg.to < length labels.old) }
-    ensures { LegRelaxed C.Cost.kind (label_of C.Cost.kind labels.old) (label_of C.Cost.kind labels.new) leg price }
+fn relax_leg<C: Cost>(labels: &mut [Label<C>], leg: &Leg, price: C)
+    requires { (leg.now.from < length labels.old) × (leg.now.to < length labels.old) }
+    ensures clean { Clean C.Cost.kind labels.old → Clean C.Cost.kind labels.new }
+    ensures relaxed { LegRelaxed C.Cost.kind (label_of C.Cost.kind labels.old) (label_of C.Cost.kind labels.new) leg.now price }
 {
     if !leg.open {
         return;
@@ -108,15 +85,15 @@ fn relax_leg<C: Cost>(labels: &mut [Label<C>], leg: Leg, price: C)
 // One round over all legs.
 fn relax_all<M: Measure>(m: &M, legs: &[Leg], labels: &mut [Label<M::Cost>])
     requires { Charted legs.now (length labels.old) }
-    ensures { (home : ℕ) → Sure (water M.Cost.Cost.kind (M.Measure.priced m.now) legs.now) home (label_of M.Cost.Cost.kind labels.old) → Round (water M.Cost.Cost.kind (M.Measure.priced m.now) legs.now) (length legs.now) home (label_of M.Cost.Cost.kind labels.old) (label_of M.Cost.Cost.kind labels.new) }
+    ensures clean { Clean M.Cost.Cost.kind labels.old → Clean M.Cost.Cost.kind labels.new }
+    ensures round { (home : ℕ) → Sure (water M.Cost.Cost.kind (M.Measure.priced m.now) legs.now) home (label_of M.Cost.Cost.kind labels.old) → Round (water M.Cost.Cost.kind (M.Measure.priced m.now) legs.now) (length legs.now) home (label_of M.Cost.Cost.kind labels.old) (label_of M.Cost.Cost.kind labels.new) }
 {
     for leg in legs {
-        let price = m.price(leg.length, leg.locks);
-        relax_leg(labels, *leg, price);
+        relax_leg(labels, leg, leg.price(m));
     }
 }
 
-// Makes each label say the distance of its mark from home, or that none is known where no way leads there.
+// Makes each label say the distance of its mark from home, and leaves those blank to whose marks no way leads.
 // A way has fewer legs than there are marks, so one round fewer than there are marks is enough.
 pub fn find_distances<M: Measure>(
     m: &M,
@@ -130,13 +107,13 @@ pub fn find_distances<M: Measure>(
     if marks > 256 {
         return Err(Refusal::TooManyMarks);
     }
-    if (home as usize) >= marks {
+    if usize::from(home) >= marks {
         return Err(Refusal::HomeOffChart);
     }
     if !all_lie(legs, marks) {
         return Err(Refusal::LegOffChart);
     }
-    blank(labels);
+    blank_labels(labels);
     lower(labels, home, M::Cost::zero());
     for _round in 1..marks {
         relax_all(m, legs, labels);

@@ -3,3 +3,4 @@ pub mod Alikes
 pub mod Orders
 pub mod Answering
 pub mod Tally
+pub mod Numbered

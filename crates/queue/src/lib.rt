@@ -9,9 +9,11 @@ use measure::Cost;
 
 pub mod order;
 pub mod refusal;
+pub mod span;
 
 pub use order::below;
 pub use refusal::Refusal;
+pub use span::span_of;
 
 // A queue spans no more marks, and counts no more draws.
 pub const MOST: usize = 65_535;
@@ -22,6 +24,7 @@ pub trait Queue<K: Cost> {
     ghost held: { Self → Held K };
 
     // Its places are laid out. Making and clearing see to it; putting, lowering and drawing rely on it and keep it.
+    // It hangs on the kind of key, so it is a property and no invariant of the queue's type.
     ghost Laid: { Self → Type 0 };
 
     fn span(&self) -> u16

@@ -12,6 +12,7 @@ pub enum Refusal {
 }
 
 impl Refusal {
+    // The numbers stand at the variants.
     pub fn number(self) -> u8
         ensures { result ≡ number_of self }
     {

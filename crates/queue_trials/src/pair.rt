@@ -1,41 +1,67 @@
-// The same calls on two queues.
-use crate::dice::Dice;
+// The same calls on two queues. They are no struct: a kind of queue doesn't tell its kind of key, so each method would name all three again.
+use dice::ShortDice;
 use measure::{Cost, Measure};
 use queue::{Queue, Refusal};
-use std::cmp::Ordering;
+use std::error::Error;
+use std::fmt;
 
 const CALLS: u32 = 6_000;
 
 const ROUNDS: u32 = 20;
 
+#[derive(Clone, Copy, Debug)]
+pub struct Differ;
+
+impl fmt::Display for Differ {
+    fn fmt<W: fmt::Write>(&self, f: &mut fmt::Formatter<W>) -> fmt::Result {
+        write!(f, "the queues differ")
+    }
+}
+
+impl Error for Differ {}
+
+fn alike(same: bool) -> Result<(), Differ> {
+    if same { Ok(()) } else { Err(Differ) }
+}
+
 // What both queues answered.
-#[derive(Clone, Copy, Drop)]
+#[derive(Clone, Copy, Default)]
 pub struct Seen {
-    pub accepted: u64,
-    pub refused: u64,
-    pub drawn: u64,
+    accepted: u64,
+    refused: u64,
+    drawn: u64,
 }
 
-// The number of the refusal, and 0 where there is none.
-pub fn number(answer: Result<(), Refusal>) -> u8 {
-    match answer {
-        Ok(()) => 0,
-        Err(refusal) => refusal.number(),
+impl Seen {
+    fn count(&mut self, answer: Result<(), Refusal>) {
+        match answer {
+            Ok(()) => self.accepted = self.accepted.saturating_add(1),
+            Err(_) => self.refused = self.refused.saturating_add(1),
+        }
     }
 }
 
-// Both empty, or equal keys; and the same marks, where no two marks have equal keys.
-fn same_draw<K: Cost>(a: Option<(u16, K)>, b: Option<(u16, K)>, distinct: bool) -> bool {
-    let Some(a) = a else {
-        return b.is_none();
-    };
-    let Some(b) = b else {
-        return false;
-    };
-    if distinct && a.0 != b.0 {
-        return false;
+impl fmt::Display for Seen {
+    fn fmt<W: fmt::Write>(&self, f: &mut fmt::Formatter<W>) -> fmt::Result {
+        write!(
+            f,
+            "{} accepted, {} refused, {} drawn",
+            self.accepted, self.refused, self.drawn
+        )
     }
-    a.1.compare(b.1) == Ordering::Equal
+}
+
+fn mark_of<K: Cost>(drawn: Option<(u16, K)>) -> Option<u16> {
+    drawn.map(|(mark, _)| mark)
+}
+
+// Equal keys, or both none.
+fn same_keys<K: Cost>(a: Option<(u16, K)>, b: Option<(u16, K)>) -> bool {
+    match (a, b) {
+        (Some((_, key)), Some((_, other))) => key.compare(other).is_eq(),
+        (None, None) => true,
+        _ => false,
+    }
 }
 
 // Puts and lowerings, refused ones too, and draws; every mark has keys of its own.
@@ -43,64 +69,52 @@ pub fn mixed<M: Measure, A: Queue<M::Cost>, B: Queue<M::Cost>>(
     measure: &M,
     a: &mut A,
     b: &mut B,
-    dice: &mut Dice,
-) -> Option<Seen> {
+    dice: &mut ShortDice,
+) -> Result<Seen, Differ> {
     a.clear();
     b.clear();
-    let mut seen = Seen {
-        accepted: 0,
-        refused: 0,
-        drawn: 0,
-    };
+    let mut seen = Seen::default();
     for _ in 0..CALLS {
-        if !any_call(measure, a, b, dice, &mut seen) {
-            return None;
-        }
+        any_call(measure, a, b, dice, &mut seen)?;
     }
-    if a.draws() == b.draws() {
-        Some(seen)
-    } else {
-        None
-    }
+    alike(a.draws() == b.draws())?;
+    Ok(seen)
 }
 
 fn any_call<M: Measure, A: Queue<M::Cost>, B: Queue<M::Cost>>(
     measure: &M,
     a: &mut A,
     b: &mut B,
-    dice: &mut Dice,
+    dice: &mut ShortDice,
     seen: &mut Seen,
-) -> bool
+) -> Result<(), Differ>
     requires { A.Queue.Laid a.old × B.Queue.Laid b.old }
     ensures { A.Queue.Laid a.new × B.Queue.Laid b.new }
 {
-    // A few marks are past the span.
+    // A few marks are past the span. The cast loses nothing: a roll is below its sides.
     let mark = dice.roll(204);
     let key = measure.price(dice.roll(200) * 256 + mark, dice.roll(3) as u8);
     match dice.roll(7) {
         0 => draw_both(a, b, seen),
         1 | 2 | 3 => {
-            let answer = number(a.put(mark, key));
-            count(answer, seen);
-            number(b.put(mark, key)) == answer
+            let answer = a.put(mark, key);
+            seen.count(answer);
+            alike(b.put(mark, key) == answer)
         }
         _ => {
-            let answer = number(a.lower(mark, key));
-            count(answer, seen);
-            number(b.lower(mark, key)) == answer
+            let answer = a.lower(mark, key);
+            seen.count(answer);
+            alike(b.lower(mark, key) == answer)
         }
     }
 }
 
-fn count(answer: u8, seen: &mut Seen) {
-    if answer == 0 {
-        seen.accepted = seen.accepted.saturating_add(1);
-    } else {
-        seen.refused = seen.refused.saturating_add(1);
-    }
-}
-
-fn draw_both<K: Cost, A: Queue<K>, B: Queue<K>>(a: &mut A, b: &mut B, seen: &mut Seen) -> bool
+// The same mark, since no two marks have equal keys.
+fn draw_both<K: Cost, A: Queue<K>, B: Queue<K>>(
+    a: &mut A,
+    b: &mut B,
+    seen: &mut Seen,
+) -> Result<(), Differ>
     requires { A.Queue.Laid a.old × B.Queue.Laid b.old }
     ensures { A.Queue.Laid a.new × B.Queue.Laid b.new }
 {
@@ -108,7 +122,8 @@ fn draw_both<K: Cost, A: Queue<K>, B: Queue<K>>(a: &mut A, b: &mut B, seen: &mut
     if drawn.is_some() {
         seen.drawn = seen.drawn.saturating_add(1);
     }
-    same_draw(drawn, b.draw(), true)
+    let other = b.draw();
+    alike(mark_of(drawn) == mark_of(other) && same_keys(drawn, other))
 }
 
 // Rounds in which many keys are equal: the queues may draw other marks, but the keys agree.
@@ -116,29 +131,28 @@ pub fn tied<M: Measure, A: Queue<M::Cost>, B: Queue<M::Cost>>(
     measure: &M,
     a: &mut A,
     b: &mut B,
-    dice: &mut Dice,
-) -> bool {
+    dice: &mut ShortDice,
+) -> Result<(), Differ> {
     for _ in 0..ROUNDS {
         a.clear();
         b.clear();
         fill(measure, a, b, dice);
-        if !drain(a, b) {
-            return false;
-        }
+        drain(a, b)?;
     }
-    true
+    Ok(())
 }
 
 fn fill<M: Measure, A: Queue<M::Cost>, B: Queue<M::Cost>>(
     measure: &M,
     a: &mut A,
     b: &mut B,
-    dice: &mut Dice,
+    dice: &mut ShortDice,
 )
     requires { A.Queue.Laid a.old × B.Queue.Laid b.old }
     ensures { A.Queue.Laid a.new × B.Queue.Laid b.new }
 {
     for mark in 0..300 {
+        // The cast loses nothing, as above.
         let key = measure.price(dice.roll(9) + 1, dice.roll(2) as u8);
         let _ = a.put(mark, key);
         let _ = b.put(mark, key);
@@ -148,14 +162,12 @@ fn fill<M: Measure, A: Queue<M::Cost>, B: Queue<M::Cost>>(
     }
 }
 
-fn drain<K: Cost, A: Queue<K>, B: Queue<K>>(a: &mut A, b: &mut B) -> bool
+fn drain<K: Cost, A: Queue<K>, B: Queue<K>>(a: &mut A, b: &mut B) -> Result<(), Differ>
     requires { A.Queue.Laid a.old × B.Queue.Laid b.old }
     ensures { A.Queue.Laid a.new × B.Queue.Laid b.new }
 {
     for _ in 0..300 {
-        if !same_draw(a.draw(), b.draw(), false) {
-            return false;
-        }
+        alike(same_keys(a.draw(), b.draw()))?;
     }
-    true
+    Ok(())
 }

@@ -4,5 +4,7 @@ pub mod Relaxing
 pub mod Runs
 pub mod Legs
 pub mod Rows
+pub mod Right
 pub mod Spreads
 pub mod Voyage
+pub mod Turns

@@ -1,6 +1,7 @@
 -- An offer to a mark that the queue may hold.
 use Rattle.std.proofs.Common.{◌≡◌, ℕ, ◌<◌, true, false, not, ◌&&◌, ◌⊎◌, is_some, Some, None, Ok, Err, Option, Result, sym, refl, ap, ◌∙◌, inl, inr}
 use native.Mathlib.Decide.{ℕ_discrete}
+use Rattle.std.proofs.lemmas.Bool.{cases_Bool, and_left, and_right}
 use Rattle.measure.specs.Kind.{Kind, Lawful, AtMost}
 use Rattle.measure.proofs.Sums.{some_none, some_injective, at_most_refl, at_most_below}
 use Rattle.queue.specs.declared.refusal.Refusal.{Refusal}
@@ -8,11 +9,10 @@ use Rattle.queue.specs.Held.{Held, Alike, with_key}
 use Rattle.queue.specs.Calls.{PutAnswer, LowerAnswer, after_setting}
 use Rattle.queue.proofs.Alikes.{key_set, key_kept}
 use Rattle.queue.proofs.Answering.{key_if_held, put_is_accepted, lower_is_accepted, lower_is_not_held}
-use Rattle.bundling.proofs.Queue.{either_way, true_false}
-use Rattle.relaxing.specs.declared.Fall.{Fall}
-use Rattle.relaxing.specs.declared.Fall.TheVariants.{Not, First, Again}
-use Rattle.waterway.specs.Labels.{Within, Lower}
-use Rattle.waterway.specs.Labels.{Wrote}
+use Rattle.bundling.proofs.Queue.{true_false}
+use Rattle.relaxing.specs.declared.offers.Fall.{Fall}
+use Rattle.relaxing.specs.declared.offers.Fall.TheVariants.{Not, First, Again}
+use Rattle.waterway.specs.Labels.{Within, Lower, Wrote}
 use Rattle.relaxing.specs.Offers.{Fallen, Agrees, out, Offered, Steady}
 
 -- what is set leaves the span and the count of draws
@@ -20,14 +20,8 @@ pub setting_steady : {C : Type 0} (h h' : Held C) (m : ℕ) (k : C) (a : Result 
 setting_steady h h' m k (Ok _) same = record { span = same.span; draws = same.draws }
 setting_steady h h' m k (Err _) same = record { span = same.span; draws = same.draws }
 
-keyed_in : {C : Type 0} (o q : Option C) {k : C} → q ≡ Some k → (is_some o && not (is_some q)) ≡ false
-keyed_in None q e = refl
-keyed_in (Some c) None e = some_none e refl
-keyed_in (Some c) (Some j) e = refl
-
-empty_in : {C : Type 0} (o q : Option C) → o ≡ None → (is_some o && not (is_some q)) ≡ false
-empty_in None q e = refl
-empty_in (Some c) q e = some_none refl e
+pub keyed_in : {C : Type 0} (o q : Option C) {k : C} → q ≡ Some k → (is_some o && not (is_some q)) ≡ false
+keyed_in o q e = and_right (is_some o) (not (is_some q)) (ap (λ x. not (is_some x)) e)
 
 full_out : {C : Type 0} (o q : Option C) → (o ≡ None → ⊥) → q ≡ None → (is_some o && not (is_some q)) ≡ true
 full_out None q n e = absurd (n refl)
@@ -57,17 +51,17 @@ module _ {C : Type 0} {K : Kind C} (L : Lawful K) {label label' : ℕ → Option
   fallen_wrote First p n = (p.1, λ l e. some_none e p.0)
   fallen_wrote Again p n = (p.1.1, λ l e. at_most_below L (p.0 l e))
 
-  module _ {key key' : ℕ → Option C} (agrees : Agrees label key) where
-    pub offered_not : ((v : ℕ) → label' v ≡ label v) → Within K (label y) r → ((v : ℕ) → key' v ≡ key v) → Offered K label label' key key' y r
-    offered_not same w kept = record {
-      lower = λ v c e. record { value = c; is = same v ∙ e; upto = at_most_refl L c };
-      within = record { value = w.value; is = same y ∙ w.is; upto = w.upto };
-      change = λ v. inl (same v);
-      agrees = λ p k e. same p ∙ agrees p k (sym (kept p) ∙ e);
-      keys = λ v ne. kept v;
-      same_out = λ v. rw (same v, kept v);
-    }
+  pub offered_not : {key : ℕ → Option C} → Agrees label key → ((v : ℕ) → label' v ≡ label v) → Within K (label y) r → Offered K label label' key key y r
+  offered_not agrees same w = record {
+    lower = λ v c e. record { value = c; is = same v ∙ e; upto = at_most_refl L c };
+    within = rw (same y) w;
+    change = λ v. inl (same v);
+    agrees = λ p k e. same p ∙ agrees p k e;
+    keys = λ v ne. refl;
+    same_out = λ v. rw (same v);
+  }
 
+  module _ {key key' : ℕ → Option C} (agrees : Agrees label key) where
     offered_wrote : Wrote label label' y r → ((l : C) → label y ≡ Some l → AtMost K r l) → ((v : ℕ) → (v ≡ y → ⊥) → key' v ≡ key v)
         → ((k : C) → key' y ≡ Some k → r ≡ k) → out label' key' y ≡ out label key y → Offered K label label' key key' y r
     offered_wrote w less keys at_y out_y = record {
@@ -92,11 +86,11 @@ module _ {C : Type 0} {K : Kind C} (L : Lawful K) {label label' : ℕ → Option
     pub put_offered : (a : Result Unit Refusal) → PutAnswer h y a → Alike h' (after_setting h y r a) → label y ≡ None → Offered K label label' h.key h'.key y r
     put_offered a p same none =
         let free = no_key (h.key y) (λ k e. some_none (agrees y k e) none) in
-        set_offered (rw (put_is_accepted h y a inside free p) at same) (λ l e. some_none e none) (empty_in (label y) (h.key y) none)
+        set_offered (rw (put_is_accepted h y a inside free p) at same) (λ l e. some_none e none) (and_left (is_some (label y)) (not (is_some (h.key y))) (ap is_some none))
 
     pub lower_offered : (a : Result Unit Refusal) → LowerAnswer K.Below h y r a → Alike h' (after_setting h y r a) → (label y ≡ None → ⊥)
         → ((l : C) → label y ≡ Some l → K.Below r l) → Offered K label label' h.key h'.key y r
-    lower_offered a p same some less = elim (either_way (is_some (h.key y))) [
+    lower_offered a p same some less = elim (cases_Bool (is_some (h.key y))) [
       | inl is ↦ set_offered (rw (lower_is_accepted K.Below h y r a inside is (λ k e. less k (agrees y k e)) p) at same) (λ l e. at_most_below L (less l e))
           (keyed_in (label y) (h.key y) (key_if_held h y is).1)
       | inr none ↦ (let out_now : Alike h' h = rw (lower_is_not_held K.Below h y r a inside (λ is. true_false is none) p) at same in

@@ -1,16 +1,17 @@
 -- A relaxation: an offer to a mark and, where it is no pivot, from there to its host.
 use Rattle.std.proofs.Common.{◌≡◌, ℕ, Bool, true, false, ◌&&◌, ◌⊎◌, List, length, Some, Option, sym, ap, ◌∙◌, inl, inr, arith}
 use native.Mathlib.Decide.{ℕ_discrete}
+use Rattle.std.proofs.lemmas.Bool.{cases_Bool}
 use Rattle.measure.specs.Kind.{Kind, Lawful, AtMost}
-use Rattle.measure.proofs.Sums.{some_injective, at_most_refl, at_most_trans}
+use Rattle.measure.proofs.Sums.{some_injective, at_most_refl}
 use Rattle.queue.specs.Held.{Held}
 use Rattle.waterway.specs.declared.Label.{Label}
 use Rattle.bundling.specs.declared.Host.{Host}
-use Rattle.waterway.specs.Labels.{Within, Lower, label_of}
+use Rattle.waterway.specs.Labels.{Within, Wrote, Clean, label_of}
 use Rattle.bundling.specs.Marks.{pivot_in, host_in, away_in}
-use Rattle.waterway.specs.Labels.{Wrote}
-use Rattle.relaxing.specs.Offers.{out, Offered, Keyed, drawn_of, Kept, Comes, Steady, Clean, Matched, Relaxed}
-use Rattle.bundling.proofs.Queue.{true_false, either_way}
+use Rattle.relaxing.specs.Offers.{out, Offered, Keyed, drawn_of, Kept, Comes, Steady, Matched, Relaxed}
+use Rattle.bundling.proofs.Queue.{true_false}
+use Rattle.waterway.proofs.Written.{lower_trans}
 use Rattle.relaxing.proofs.Offering.{wrote_lower, wrote_within, wrote_change}
 
 module _ {C : Type 0} {K : Kind C} (L : Lawful K) (pivot : ℕ → Bool) (host : ℕ → ℕ) (away : ℕ → Option C) where
@@ -18,9 +19,6 @@ module _ {C : Type 0} {K : Kind C} (L : Lawful K) (pivot : ℕ → Bool) (host :
     pub kept : Kept K pivot host away label label' key key'
     pub within : Within K (label' y) r
     pub change : (v : ℕ) (c : C) → label' v ≡ Some c → (label v ≡ Some c) ⊎ Comes K pivot host away y r v c
-
-  then_lower : {a b c : ℕ → Option C} → Lower K a b → Lower K b c → Lower K a c
-  then_lower f g v l e = let m = f v l e in let n = g v m.value m.is in record { value = n.value; is = n.is; upto = at_most_trans L n.upto m.upto }
 
   module _ {label key : ℕ → Option C} (keyed : Keyed pivot label key) {y : ℕ} {r : C} where
     pub pivot_step : {label' key' : ℕ → Option C} → pivot y ≡ true → Offered K label label' key key' y r → Step label label' key key' y r
@@ -46,7 +44,7 @@ module _ {C : Type 0} {K : Kind C} (L : Lawful K) (pivot : ℕ → Bool) (host :
         same_drawn = λ p. rw (same p);
         passed = λ v out. inl (same v);
       };
-      within = record { value = w.value; is = same y ∙ w.is; upto = w.upto };
+      within = rw (same y) w;
       change = λ v c e. inl (sym (same v) ∙ e);
     }
 
@@ -59,7 +57,7 @@ module _ {C : Type 0} {K : Kind C} (L : Lawful K) (pivot : ℕ → Bool) (host :
       outer_keyed = record { agrees = λ p k e. other (keyed.pivots p k e) ∙ keyed.agrees p k e; pivots = keyed.pivots }
 
       outer_drawn : (p : ℕ) → drawn_of pivot label' key p ≡ drawn_of pivot label key p
-      outer_drawn p = elim (either_way (pivot p)) [ inl b ↦ rw (other b) | inr b ↦ rw b ]
+      outer_drawn p = elim (cases_Bool (pivot p)) [ inl b ↦ rw (other b) | inr b ↦ rw b ]
 
       pub outer_stop : ((h s : C) → away y ≡ Some h → K.sum r h ≡ Some s → ⊥) → Step label label' key key y r
       outer_stop none = record {
@@ -80,7 +78,7 @@ module _ {C : Type 0} {K : Kind C} (L : Lawful K) (pivot : ℕ → Bool) (host :
           → Offered K label' label'' key key'' (host y) s → Step label label'' key key'' y r
       outer_onward {label''} {key''} {h} {s} at sum is o = record {
         kept = record {
-          lower = then_lower (wrote_lower L w less) o.lower;
+          lower = lower_trans L (wrote_lower L w less) o.lower;
           keyed = record {
             agrees = o.agrees;
             pivots = λ p k e. elim (ℕ_discrete p (host y)) [ yes f ↦ rw f is | no f ↦ keyed.pivots p k (sym (o.keys p f) ∙ e) ];

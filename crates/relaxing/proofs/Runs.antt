@@ -1,7 +1,7 @@
 -- Runs of relaxations on a waterway.
 use Rattle.std.proofs.Common.{◌≡◌, ℕ, Bool, List, Some, None, Option, sym, refl, ◌∙◌, inl, inr, arith}
 use Rattle.measure.specs.Kind.{Kind, Lawful}
-use Rattle.measure.proofs.Sums.{some_none, some_injective, at_most_refl}
+use Rattle.measure.proofs.Sums.{some_none, some_injective}
 use Rattle.queue.specs.Held.{Held}
 use Rattle.waterway.specs.Ways.{Water, Dist, Joins, toll, Sound}
 use Rattle.waterway.proofs.Distance.{dist, dist_found, dist_is}
@@ -9,12 +9,12 @@ use Rattle.waterway.specs.declared.Label.{Label}
 use Rattle.bundling.specs.declared.Host.{Host}
 use Rattle.waterway.specs.Labels.{Within, label_of}
 use Rattle.bundling.specs.Marks.{pivot_in, host_in, away_in}
-use Rattle.relaxing.specs.Offers.{Kept, Steady, Matched, Tried, Relaxed, Comes}
+use Rattle.relaxing.specs.Offers.{Keyed, Kept, Steady, Matched, Tried, Relaxed, Comes}
 use Rattle.relaxing.specs.Search.{Reach, Sure, Housed, Ran}
 use Rattle.bundling.proofs.Graph.{Above}
 use Rattle.bundling.proofs.Nearby.{away, away_nearby, leg_nearby}
 use Rattle.bundling.proofs.Labels.{offer, stays}
-use Rattle.waterway.proofs.Written.{within_lower}
+use Rattle.waterway.proofs.Written.{within_lower, lower_refl}
 use Rattle.bundling.proofs.Water.{Edge, ways}
 
 pub steady_trans : {C : Type 0} {h i j : Held C} → Steady h i → Steady i j → Steady h j
@@ -36,19 +36,12 @@ module _ {C : Type 0} {K : Kind C} (L : Lawful K) where
     ];
   }
 
+  kept_refl : {pivot : ℕ → Bool} {host : ℕ → ℕ} {away : ℕ → Option C} {label key : ℕ → Option C} → Keyed pivot label key → Kept K pivot host away label label key key
+  kept_refl {label = label} keyed = record { lower = lower_refl L label; keyed = keyed; same_drawn = λ p. refl; passed = λ v out. inl refl }
+
   module _ {W : Water K} {hosts : List (Host C)} where
     pub ran_refl : (a : List (Label C)) (h : Held C) → Matched K hosts a h → Ran W hosts a h a h
-    ran_refl a h m = record {
-      matched = m;
-      keeps = record {
-        lower = λ v c e. record { value = c; is = e; upto = at_most_refl L c };
-        keyed = m.keyed;
-        same_drawn = λ p. refl;
-        passed = λ v out. inl refl;
-      };
-      steady = record { span = refl; draws = refl };
-      sure = λ s f. f;
-    }
+    ran_refl a h m = record { matched = m; keeps = kept_refl m.keyed; steady = record { span = refl; draws = refl }; sure = λ s f. f }
 
     pub ran_trans : {a b c : List (Label C)} {i j k : Held C} → Ran W hosts a i b j → Ran W hosts b j c k → Ran W hosts a i c k
     ran_trans p q = record { matched = q.matched; keeps = kept_trans p.keeps q.keeps; steady = steady_trans p.steady q.steady; sure = λ s f. q.sure s (p.sure s f) }
@@ -57,11 +50,11 @@ module _ {C : Type 0} {K : Kind C} (L : Lawful K) where
     within_ran v p = within_lower L p.keeps.lower
 
 module _ {C : Type 0} {K : Kind C} {W : Water K} {n : ℕ} (S : Sound W n) where
-  pub sure_above : {s : ℕ} {label : ℕ → Option C} → ((v : ℕ) (c : C) → label v ≡ Some c → Reach W s v c) → Above K (dist S) s label
-  sure_above sure v c e = let r = sure v c e in record { value = r.dist; is = dist_is S r.is; upto = r.upto }
-
-  pub reach_within : {s v : ℕ} {c : C} → Reach W s v c → Within K (dist S s v) c
+  reach_within : {s v : ℕ} {c : C} → Reach W s v c → Within K (dist S s v) c
   reach_within r = record { value = r.dist; is = dist_is S r.is; upto = r.upto }
+
+  pub sure_above : {s : ℕ} {label : ℕ → Option C} → ((v : ℕ) (c : C) → label v ≡ Some c → Reach W s v c) → Above K (dist S) s label
+  sure_above sure v c e = reach_within (sure v c e)
 
   pub within_reach : {s v : ℕ} {c : C} → Within K (dist S s v) c → Reach W s v c
   within_reach r = record { dist = r.value; is = dist_found S r.is; upto = r.upto }
@@ -113,12 +106,7 @@ module _ {C : Type 0} {K : Kind C} (L : Lawful K) {hosts : List (Host C)} {a : L
   pub untried : o ≡ None → Matched K hosts a i → Tried K hosts a i a i y o
   untried none m = record {
     matched = m;
-    keeps = record {
-      lower = λ v c e. record { value = c; is = e; upto = at_most_refl L c };
-      keyed = m.keyed;
-      same_drawn = λ p. refl;
-      passed = λ v out. inl refl;
-    };
+    keeps = kept_refl L m.keyed;
     steady = record { span = refl; draws = refl };
     within = λ r e. some_none e none;
     change = λ v c e. inl e;

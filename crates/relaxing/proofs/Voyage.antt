@@ -1,8 +1,9 @@
 -- One turn of the search, and its end, by the theorems.
-use Rattle.std.proofs.Common.{◌≡◌, ℕ, ◌+◌, ◌<◌, ◌≤◌, Bool, true, false, cond, not, ◌&&◌, eqb, ◌⊎◌, List, length, is_some, Some, None, Option, sym, refl, ap, ◌∙◌, inl, inr, arith}
+use Rattle.std.proofs.Common.{◌≡◌, ℕ, ◌+◌, ◌<◌, ◌≤◌, Bool, true, false, not, ◌&&◌, List, length, is_some, Some, None, Option, sym, refl, ap, ◌∙◌, inl, inr, arith}
 use native.Mathlib.Decide.{ℕ_discrete}
 use Rattle.std.proofs.lemmas.List.{get_or_past}
-use Rattle.std.proofs.lemmas.Bool.{cases_lt, cond-true, and_parts, and_right}
+use Rattle.std.proofs.lemmas.Bool.{cases_lt, and_right}
+use Rattle.std.proofs.lemmas.Float.{T_from_true}
 use Rattle.measure.specs.Kind.{Kind, AtMost}
 use Rattle.measure.proofs.Sums.{some_none, some_injective, at_most_refl, plus, sum_plus, size_plus, plus_is, plus_zero}
 use Rattle.queue.specs.Held.{Held, Alike, drawn as without}
@@ -19,9 +20,9 @@ use Rattle.waterway.specs.declared.Label.{Label}
 use Rattle.bundling.specs.declared.Host.{Host}
 use Rattle.bundling.specs.declared.Near.{Near}
 use Rattle.waterway.specs.Labels.{label_of}
-use Rattle.bundling.specs.Marks.{no_host, host_at, pivot_in, host_in, away_in}
-use Rattle.relaxing.specs.Offers.{Offered, Clean, Matched, Kept, drawn_of}
-use Rattle.relaxing.specs.Search.{Sure, Housed, Balled, Ran, Mine, StepOne, StepTwo, near_at}
+use Rattle.bundling.specs.Marks.{no_host, host_at, cost_of, pivot_in, host_in, away_in}
+use Rattle.relaxing.specs.Offers.{out, Begun, Matched, Kept, drawn_of}
+use Rattle.relaxing.specs.Search.{Sure, Housed, Balled, Ran, Mine, StepOne, StepTwo, near_at, ball_in}
 use Rattle.bundling.proofs.Graph.{Hosts}
 use Rattle.bundling.proofs.Queue.{true_false, Draws}
 use Rattle.bundling.proofs.Queue as queues
@@ -31,23 +32,14 @@ use Rattle.bundling.proofs.Draw.{exact_key}
 use Rattle.bundling.proofs.Bundle.{exact_bundle}
 use Rattle.bundling.proofs.Again.{ready_again}
 use Rattle.bundling.proofs.Water.{Edge, ways}
-use Rattle.bundling.proofs.Pivots.{holds, is_true, Placed, bundles, in_ball}
+use Rattle.bundling.proofs.Written.{either_option, at_some, cost_some, none_mark}
+use Rattle.bundling.proofs.Pivots.{is_true, Placed, bundles, in_ball}
 use Rattle.bundling.proofs.Answer.{end_tells, drawn_are}
 use Rattle.bundling.proofs.Tally.{tally_counts, tally_below, tally_drawn}
 use Rattle.queue.proofs.Tally.{tally}
+use Rattle.relaxing.proofs.Offering.{keyed_in}
+use Rattle.relaxing.proofs.Rows.{mine_away}
 use Rattle.relaxing.proofs.Runs.{sure_above, within_reach, kept_trans}
-
-cond_some : {C : Type 0} (b : Bool) (x : C) {c : C} → cond b (Some x) None ≡ Some c → b ≡ true
-cond_some true x e = refl
-cond_some false x e = some_none e refl
-
-cond_self : {C : Type 0} (b : Bool) (x : C) (m v : ℕ) → cond b (Some x) None ≡ None → cond b m v ≡ v
-cond_self true x m v e = some_none refl e
-cond_self false x m v e = refl
-
-either_option : {C : Type 0} (o : Option C) → (o ≡ None) ⊎ ((c : C) × (o ≡ Some c))
-either_option None = inl refl
-either_option (Some c) = inr (c, refl)
 
 drawn_yes : {C : Type 0} {p : Bool} {l q : Option C} {c : C} → p ≡ true → l ≡ Some c → q ≡ None → (p && (is_some l && not (is_some q))) ≡ true
 drawn_yes e f g = rw (e, f, g)
@@ -64,38 +56,28 @@ waiting true None q e f g = some_none f refl
 waiting true (Some c) None e f g = true_false refl g
 waiting true (Some c) (Some j) e f g = (j, refl)
 
-keyed_undrawn : {C : Type 0} (p : Bool) (l q : Option C) {k : C} → q ≡ Some k → (p && (is_some l && not (is_some q))) ≡ false
-keyed_undrawn false l q e = refl
-keyed_undrawn true None q e = refl
-keyed_undrawn true (Some c) None e = some_none e refl
-keyed_undrawn true (Some c) (Some j) e = refl
-
 module _ {C : Type 0} (K : Kind C) (hosts : List (Host C)) where
   pivot_away : (v : ℕ) → pivot_in K hosts v ≡ true → (c : C) × (away_in K hosts v ≡ Some c)
   unfolding pivot_in away_in
-  pivot_away v e =
-      let k = (and_parts (host_at K hosts v).known (eqb (host_at K hosts v).mark v) e).0 in
-      ((host_at K hosts v).cost, cond-true (host_at K hosts v).known (Some (host_at K hosts v).cost) None k)
+  pivot_away v e = let p = at_some (host_at K hosts v).pivot e in (p.0, ap cost_of p.1)
 
   none_self : (v : ℕ) → away_in K hosts v ≡ None → host_in K hosts v ≡ v
   unfolding away_in host_in
-  none_self v e = cond_self (host_at K hosts v).known (host_at K hosts v).cost (host_at K hosts v).mark v e
+  none_self v e = none_mark (host_at K hosts v).pivot v e
 
   away_mine : (v u : ℕ) (c : C) → away_in K hosts v ≡ Some c → host_in K hosts v ≡ u → Mine K hosts u v
   unfolding away_in host_in
-  away_mine v u c e f =
-      let k = cond_some (host_at K hosts v).known (host_at K hosts v).cost e in
-      record { known = k; mark = sym (cond-true (host_at K hosts v).known (host_at K hosts v).mark v k) ∙ f }
+  away_mine v u c e f = record { away = c; pivot = cost_some (host_at K hosts v).pivot v e ∙ ap (λ m. Some (record { mark = m; cost = c })) f }
 
-  known_in : (v : ℕ) → (host_at K hosts v).known ≡ true → v < length hosts
+  known_in : (v : ℕ) {p : Near C} → (host_at K hosts v).pivot ≡ Some p → v < length hosts
   known_in v k = elim (cases_lt v (length hosts)) [
     | inl lt ↦ lt
-    | inr past ↦ true_false k (ap (λ (z : Host C). z.known) (get_or_past hosts v (no_host K) past))
+    | inr past ↦ some_none k (ap (λ (z : Host C). z.pivot) (get_or_past hosts v (no_host K) past))
   ]
 
   pivot_in_marks : (v : ℕ) → pivot_in K hosts v ≡ true → v < length hosts
   unfolding pivot_in
-  pivot_in_marks v e = known_in v (and_parts (host_at K hosts v).known (eqb (host_at K hosts v).mark v) e).0
+  pivot_in_marks v e = known_in v (at_some (host_at K hosts v).pivot e).1
 
 module _ {C : Type 0} {K : Kind C} {W : Water K} {n : ℕ} (S : Sound W n) (dear : Dear W) {hosts : List (Host C)} (housed : Housed W n hosts) where
   open S use {lawful as L}
@@ -111,7 +93,7 @@ module _ {C : Type 0} {K : Kind C} {W : Water K} {n : ℕ} (S : Sound W n) (dear
 
   module _ (home : ℕ) (home_pivot : pivot_in K hosts home ≡ true) where
     abbrev pub H : Hosts K (dist S) (Edge W) (pivot_in K hosts) (host_in K hosts) home
-    H = bundles S (pivot_in K hosts) placed dear home (holds (pivot_in K hosts home) home_pivot)
+    H = bundles S (pivot_in K hosts) placed dear home (T_from_true (pivot_in K hosts home) home_pivot)
 
     -- the host of a mark that has one
     nearest : (v : ℕ) {c : C} → away_in K hosts v ≡ Some c → Nearest W n (pivot_in K hosts) v (host_in K hosts v) c
@@ -136,7 +118,7 @@ module _ {C : Type 0} {K : Kind C} {W : Water K} {n : ℕ} (S : Sound W n) (dear
       drawn_inside = omega (arith, pivot_in_marks K hosts u pivotal, housed.long)
 
       pub held : queues.Held (pivot_in K hosts) (label_of K a) (drawn_of (pivot_in K hosts) (label_of K a) h.key) u k
-      held = record { pivotal = pivotal; undrawn = keyed_undrawn (pivot_in K hosts u) (label_of K a u) (h.key u) least.holds; key = key_is }
+      held = record { pivotal = pivotal; undrawn = and_right (pivot_in K hosts u) (out (label_of K a) h.key u) (keyed_in (label_of K a u) (h.key u) least.holds); key = key_is }
 
       pub lowest : (p : ℕ) (j : C) → queues.Held (pivot_in K hosts) (label_of K a) (drawn_of (pivot_in K hosts) (label_of K a) h.key) p j → AtMost K k j
       lowest p j held =
@@ -196,21 +178,20 @@ module _ {C : Type 0} {K : Kind C} {W : Water K} {n : ℕ} (S : Sound W n) (dear
           ]
 
           mine_in : (v : ℕ) → host_in K hosts v ≡ u → v < n
-          mine_in v e = omega (arith, known_in K hosts v (mine v e).known, housed.long)
+          mine_in v e = omega (arith, known_in K hosts v (mine v e).pivot, housed.long)
 
           gap : (v : ℕ) (e : C) → host_in K hosts v ≡ u → dist S u v ≡ Some e → away_in K hosts v ≡ Some e
-          gap v e m f = elim (either_option (away_in K hosts v)) [
-            | inl none ↦ (let s = pivot_away K hosts u pivotal in some_none s.1 (rw (sym (sym (none_self K hosts v none) ∙ m)) none))
-            | inr some ↦ some.1 ∙ ap Some (dist_unique S (rw m at (nearest v some.1).dist) (metric.dist_turned S (dist_found S f)))
-          ]
+          gap v e m f =
+              let some = mine_away (mine v m) in
+              some ∙ ap Some (dist_unique S (rw m at (nearest v some).dist) (metric.dist_turned S (dist_found S f)))
 
           row_of : (v w : ℕ) (d : C) → host_in K hosts v ≡ u → InBall H v w → dist S w v ≡ Some d
-              → (x : ℕ) × ((host_at K hosts v).start ≤ x) × (x < (host_at K hosts v).end) × ((near_at K near x).mark ≡ w) × ((near_at K near x).cost ≡ d)
+              → (x : ℕ) × (x < length (ball_in K hosts near v)) × ((near_at K (ball_in K hosts near v) x).mark ≡ w) × ((near_at K (ball_in K hosts near v) x).cost ≡ d)
           row_of v w d m B e =
               let D = metric.dist_turned S (dist_found S e) in
               let I = ball_of v w B d (dist_is S D) in
               let row = balled.every v w d I in
-              (row.0, row.1, row.2, row.3, dist_unique S (rw row.3 at (balled.only v row.0 row.1 row.2).dist) D)
+              (row.0, row.1, row.2, dist_unique S (rw row.2 at (balled.only v row.0 row.1).dist) D)
 
           step1 : Step1 H (label_of K a) (label_of K b) u k
           step1 = record {
@@ -218,22 +199,22 @@ module _ {C : Type 0} {K : Kind C} {W : Water K} {n : ℕ} (S : Sound W n) (dear
             above = sure_above S (p.sure home sure);
             own = λ v e m f.
                 let A = away (ways S) f in
-                (one.each v (mine_in v m) (mine v m)).own home sure k e (plus K k e) key_is (dist_found S at_u.is) (gap v e m f) (sum_plus L k e (omega (arith, at_u.short, A.short)));
+                (one.each v (mine_in v m) (mine v m)).own.each home sure k e (plus K k e) (rw m key_is) (rw m (dist_found S at_u.is)) (gap v e m f) (sum_plus L k e (omega (arith, at_u.short, A.short)));
             ball = λ v y l e m B f g i.
                 let row = row_of v y e m B i in
                 let A = away (ways S) g in
                 let A' = away (ways S) i in
-                ((one.each v (mine_in v m) (mine v m)).ball.each row.0 row.1 row.2).ball home sure l (plus K l e)
-                (rw row.3 f) (rw row.3 (dist_found S g)) (rw row.4 (sum_plus L l e (omega (arith, A.short, A'.short))));
+                ((one.each v (mine_in v m) (mine v m)).ball.each row.0 row.1).ball home sure l (plus K l e)
+                (rw row.2 f) (rw row.2 (dist_found S g)) (rw row.3 (sum_plus L l e (omega (arith, A.short, A'.short))));
             rim = λ v z w l d e m B E f g i.
                 let row = row_of v w e m B i in
                 let A = away (ways S) g in
                 let A' = away (ways S) i in
                 let s = (ways S).short_leg z w d E in
-                ((one.each v (mine_in v m) (mine v m)).ball.each row.0 row.1 row.2).rim.each home sure E.leg z l (plus K l d) (plus K (plus K l d) e)
-                E.joins.stands (rw row.3 E.joins) f (dist_found S g)
+                ((one.each v (mine_in v m) (mine v m)).ball.each row.0 row.1).rim.each home sure E.leg z l (plus K l d) (plus K (plus K l d) e)
+                E.joins.stands (rw row.2 E.joins) f (dist_found S g)
                 (rw E.costs (sum_plus L l d (omega (arith, A.short))))
-                (rw row.4 (sum_plus L (plus K l d) e (omega (arith, size_plus L l d, A.short, A'.short))));
+                (rw row.3 (sum_plus L (plus K l d) e (omega (arith, size_plus L l d, A.short, A'.short))));
           }
 
           exact : (x : ℕ) (d : C) → host_in K hosts x ≡ u → dist S home x ≡ Some d → label_of K b x ≡ Some d
@@ -295,36 +276,26 @@ module _ {C : Type 0} {K : Kind C} {W : Water K} {n : ℕ} (S : Sound W n) (dear
           some_none q.1 (none p)
 
       pub all_told : (v : ℕ) → Tells W home v (label_of K a v)
-      all_told = end_tells S dear (pivot_in K hosts) placed home (holds (pivot_in K hosts home) home_pivot) ready empty
+      all_told = end_tells S dear (pivot_in K hosts) placed home (T_from_true (pivot_in K hosts home) home_pivot) ready empty
 
       pub all_counted : Counts (λ p. (pivot_in K hosts p ≡ true) × ((c : C) × Dist W home p c)) n (tally (drawn_of (pivot_in K hosts) (label_of K a) h.key) n)
       all_counted = tally_counts (drawn_of (pivot_in K hosts) (label_of K a) h.key) (λ p. (pivot_in K hosts p ≡ true) × ((c : C) × Dist W home p c))
-          (drawn_are S dear (pivot_in K hosts) placed home (holds (pivot_in K hosts home) home_pivot) ready empty) n
+          (drawn_are S dear (pivot_in K hosts) placed home (T_from_true (pivot_in K hosts home) home_pivot) ready empty) n
 
     -- the start: home alone has a label
-    module _ (a b : List (Label C)) (i j : Held C) (blank : (v : ℕ) → label_of K a v ≡ None) (cleared : (m : ℕ) → i.key m ≡ None)
-        (o : Offered K (label_of K a) (label_of K b) i.key j.key home K.zero) where
-      first : label_of K b home ≡ Some K.zero
-      first = elim (o.change home) [ inl e ↦ some_none o.within.is (e ∙ blank home) | inr e ↦ e.1 ]
+    module _ {a : List (Label C)} {h j : Held C} (begun : Begun K home a h j) where
+      pub none_drawn : (p : ℕ) → drawn_of (pivot_in K hosts) (label_of K a) j.key p ≡ false
+      none_drawn p = rw begun.undrawn (and_right (pivot_in K hosts p) false refl)
 
-      alone : (v : ℕ) (c : C) → label_of K b v ≡ Some c → v ≡ home
-      alone v c e = elim (o.change v) [ inl f ↦ some_none e (f ∙ blank v) | inr f ↦ f.0 ]
+      pub ready_first : Ready H (label_of K a) (drawn_of (pivot_in K hosts) (label_of K a) j.key)
+      ready_first = ready_start H begun.first begun.alone none_drawn
 
-      pub none_drawn : (p : ℕ) → drawn_of (pivot_in K hosts) (label_of K b) j.key p ≡ false
-      none_drawn p = rw (o.same_out p, blank p) (and_right (pivot_in K hosts p) false refl)
-
-      pub ready_first : Ready H (label_of K b) (drawn_of (pivot_in K hosts) (label_of K b) j.key)
-      ready_first = ready_start H first alone none_drawn
-
-      pub matched_first : length b ≡ n → length b ≤ j.span → Clean K b → Matched K hosts b j
-      matched_first long span clean = record {
+      pub matched_first : length a ≡ n → length a ≤ h.span → Matched K hosts a j
+      matched_first long span = record {
         long = housed.long ∙ sym long;
-        span = span;
-        clean = clean;
-        keyed = record {
-          agrees = o.agrees;
-          pivots = λ p k e. elim (ℕ_discrete p home) [ yes f ↦ rw f home_pivot | no f ↦ some_none e (o.keys p f ∙ cleared p) ];
-        };
+        span = omega (arith, begun.span);
+        clean = begun.clean;
+        keyed = record { agrees = begun.agrees; pivots = λ p k e. rw (begun.keys p k e) home_pivot };
         hosted = λ v c e. let N = housed.some v c e in (omega (arith, N.inside), is_true _ N.is_pivot);
       }
 
@@ -333,12 +304,6 @@ abbrev pub ReadyAt : {C : Type 0} {K : Kind C} → Water K → ℕ → List (Hos
 ReadyAt {C} {K} W n hosts home labels h =
     (S : Sound W n) (dear : Dear W) (housed : Housed W n hosts) (home_pivot : pivot_in K hosts home ≡ true)
     → Ready (H S dear housed home home_pivot) (label_of K labels) (drawn_of (pivot_in K hosts) (label_of K labels) h.key)
-
-pub step_one_moved : {C : Type 0} {K : Kind C} {W : Water K} {hosts : List (Host C)} {near : List (Near C)} {a b : List (Label C)} {u n m : ℕ} → StepOne W hosts near a b u n → n ≡ m → StepOne W hosts near a b u m
-step_one_moved s e = rw e at s
-
-pub step_two_moved : {C : Type 0} {K : Kind C} {W : Water K} {hosts : List (Host C)} {a b : List (Label C)} {u n m l : ℕ} → StepTwo W n hosts a b u m → n ≡ l → m ≡ l → StepTwo W l hosts a b u l
-step_two_moved s e f = rw f at (rw e at s)
 
 pub counts_moved : {P : ℕ → Type 0} {n m c d : ℕ} → Counts P n c → n ≡ m → d ≡ c → Counts P m d
 counts_moved k e f = rw f (rw e at k)

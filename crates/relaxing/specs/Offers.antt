@@ -4,9 +4,9 @@ use Rattle.measure.specs.Kind.{Kind}
 use Rattle.queue.specs.Held.{Held}
 use Rattle.waterway.specs.declared.Label.{Label}
 use Rattle.bundling.specs.declared.Host.{Host}
-use Rattle.relaxing.specs.declared.Fall.{Fall}
-use Rattle.relaxing.specs.declared.Fall.TheVariants.{Not, First, Again}
-use Rattle.waterway.specs.Labels.{Within, Lower, Wrote, unlabelled, label_of}
+use Rattle.relaxing.specs.declared.offers.Fall.{Fall}
+use Rattle.relaxing.specs.declared.offers.Fall.TheVariants.{Not, First, Again}
+use Rattle.waterway.specs.Labels.{Within, Lower, Wrote, Clean, unlabelled, label_of}
 use Rattle.bundling.specs.Marks.{pivot_in, host_in, away_in}
 
 -- whether the label of y fell to r
@@ -68,9 +68,16 @@ pub record Steady {C : Type 0} (h h' : Held C) : Type 0 where
 pub record Blank {C : Type 0} (K : Kind C) (labels : List (Label C)) : Type 0 where
   pub each : (v : ℕ) → slice_index_or labels v (unlabelled K) ≡ unlabelled K
 
--- a label that says no is blank
-pub record Clean {C : Type 0} (K : Kind C) (labels : List (Label C)) : Type 0 where
-  pub each : (v : ℕ) → label_of K labels v ≡ None → slice_index_or labels v (unlabelled K) ≡ unlabelled K
+-- a search that begins: home alone has a label, which is zero, and no mark is drawn
+pub record Begun {C : Type 0} (K : Kind C) (home : ℕ) (labels : List (Label C)) (h h' : Held C) : Type 0 where
+  pub first : label_of K labels home ≡ Some K.zero
+  pub alone : (v : ℕ) (c : C) → label_of K labels v ≡ Some c → v ≡ home
+  pub agrees : Agrees (label_of K labels) h'.key
+  pub keys : (v : ℕ) (k : C) → h'.key v ≡ Some k → v ≡ home
+  pub undrawn : (v : ℕ) → out (label_of K labels) h'.key v ≡ false
+  pub clean : Clean K labels
+  pub span : h'.span ≡ h.span
+  pub draws : h'.draws ≡ 0
 
 -- labels, hosts and a queue that fit together
 pub record Matched {C : Type 0} (K : Kind C) (hosts : List (Host C)) (labels : List (Label C)) (h : Held C) : Type 0 where

@@ -1,9 +1,9 @@
 -- What the search by bundles asks for, and what its steps do.
-use Rattle.std.specs.Prelude.{◌≡◌, ℕ, ◌<◌, ◌≤◌, true, T, ◌⊎◌, List, length, Some, None, Option, slice_index_or}
+use Rattle.std.specs.Prelude.{◌≡◌, ℕ, ◌<◌, ◌≤◌, T, ◌⊎◌, List, length, Some, None, slice_index_or, slice_range}
 use Rattle.measure.specs.Kind.{Kind, AtMost}
 use Rattle.queue.specs.Held.{Held}
 use Rattle.waterway.specs.declared.Leg.{Leg}
-use Rattle.waterway.specs.Legs.{Ends}
+use Rattle.waterway.specs.Legs.{leg_at, Ends}
 use Rattle.waterway.specs.Ways.{Water, Dist, Joins, toll}
 use Rattle.waterway.specs.Priced.{Charted}
 use Rattle.waterway.specs.Hosts.{Host as Nearest, InBall}
@@ -27,6 +27,14 @@ Sure {C} {K} W s labels = (v : ℕ) (c : C) → label_of K labels v ≡ Some c �
 abbrev pub near_at : {C : Type 0} → Kind C → List (Near C) → ℕ → Near C
 near_at K near j = slice_index_or near j (record { mark = 0; cost = K.zero })
 
+-- the rows of the ball of each mark are a part of the near table
+abbrev pub BallsFit : {C : Type 0} → Kind C → List (Host C) → List (Near C) → Type 0
+BallsFit K hosts near = (v : ℕ) → ((host_at K hosts v).start ≤ (host_at K hosts v).end) × ((host_at K hosts v).end ≤ length near)
+
+-- the ball of a mark
+abbrev pub ball_in : {C : Type 0} → Kind C → List (Host C) → List (Near C) → ℕ → List (Near C)
+ball_in K hosts near v = slice_range near (host_at K hosts v).start (host_at K hosts v).end
+
 -- the hosts are the nearest pivots
 pub record Housed {C : Type 0} {K : Kind C} (W : Water K) (n : ℕ) (hosts : List (Host C)) : Type 0 where
   pub long : length hosts ≡ n
@@ -35,17 +43,22 @@ pub record Housed {C : Type 0} {K : Kind C} (W : Water K) (n : ℕ) (hosts : Lis
 
 -- the ball of each mark stands in the near table
 pub record Balled {C : Type 0} {K : Kind C} (W : Water K) (n : ℕ) (hosts : List (Host C)) (near : List (Near C)) : Type 0 where
-  pub fits : (v : ℕ) → ((host_at K hosts v).start ≤ (host_at K hosts v).end) × ((host_at K hosts v).end ≤ length near)
-  pub inside : (v j : ℕ) → (host_at K hosts v).start ≤ j → j < (host_at K hosts v).end → (near_at K near j).mark < n
-  pub only : (v j : ℕ) → (host_at K hosts v).start ≤ j → j < (host_at K hosts v).end
-      → InBall W n (pivot_in K hosts) v (near_at K near j).mark (near_at K near j).cost
+  pub fits : BallsFit K hosts near
+  pub inside : (v j : ℕ) → j < length (ball_in K hosts near v) → (near_at K (ball_in K hosts near v) j).mark < n
+  pub only : (v j : ℕ) → j < length (ball_in K hosts near v)
+      → InBall W n (pivot_in K hosts) v (near_at K (ball_in K hosts near v) j).mark (near_at K (ball_in K hosts near v) j).cost
   pub every : (v w : ℕ) (d : C) → InBall W n (pivot_in K hosts) v w d
-      → (j : ℕ) × ((host_at K hosts v).start ≤ j) × (j < (host_at K hosts v).end) × ((near_at K near j).mark ≡ w)
+      → (j : ℕ) × (j < length (ball_in K hosts near v)) × ((near_at K (ball_in K hosts near v) j).mark ≡ w)
 
--- legs and hosts that are right
-pub record Sea {C : Type 0} {K : Kind C} (W : Water K) (n : ℕ) (hosts : List (Host C)) : Type 0 where
+-- legs, hosts and balls that are right
+pub record Sea {C : Type 0} {K : Kind C} (W : Water K) (n : ℕ) (hosts : List (Host C)) (near : List (Near C)) : Type 0 where
   pub chart : Charted W.legs n
   pub housed : Housed W n hosts
+  pub balled : Balled W n hosts near
+
+-- the leg is one of those of the waterway
+abbrev pub IsLeg : {C : Type 0} {K : Kind C} → Water K → Leg → Type 0
+IsLeg W leg = (k : ℕ) × (k < length W.legs) × (leg_at W.legs k ≡ leg)
 
 -- a run of relaxations
 pub record Ran {C : Type 0} {K : Kind C} (W : Water K) (hosts : List (Host C)) (a : List (Label C)) (h : Held C) (b : List (Label C)) (h' : Held C) : Type 0 where
@@ -54,14 +67,9 @@ pub record Ran {C : Type 0} {K : Kind C} (W : Water K) (hosts : List (Host C)) (
   pub steady : Steady h h'
   pub sure : (s : ℕ) → Sure W s a → Sure W s b
 
--- the other end of an open leg that ends at v
-abbrev pub FarEnd : Leg → ℕ → Option ℕ → Type 0
-FarEnd leg v None = (z : ℕ) → T leg.«open» → Ends leg z v → ⊥
-FarEnd leg v (Some z) = T leg.«open» × (Ends leg z v × ((x : ℕ) → Ends leg x v → x ≡ z))
-
--- `to`, which is `over` away from `into`, has the offer over the leg k from each label
-pub record OverLeg {C : Type 0} {K : Kind C} (W : Water K) (a b : List (Label C)) (k into : ℕ) (over : C) (to : ℕ) : Type 0 where
-  pub each : (z : ℕ) (l q r : C) → Joins W.legs k z into → label_of K a z ≡ Some l → K.sum l (toll W k) ≡ Some q → K.sum q over ≡ Some r
+-- `to`, which is `over` away from `into`, has the offer over the leg from each label
+pub record OverLeg {C : Type 0} {K : Kind C} (W : Water K) (a b : List (Label C)) (leg : Leg) (into : ℕ) (over : C) (to : ℕ) : Type 0 where
+  pub each : (z : ℕ) (l q r : C) → T leg.«open» → Ends leg z into → label_of K a z ≡ Some l → K.sum l (W.price leg) ≡ Some q → K.sum q over ≡ Some r
       → Within K (label_of K b to) r
 
 -- the same from each exact label, over each leg below i
@@ -74,40 +82,44 @@ pub record FromNear {C : Type 0} {K : Kind C} (W : Water K) (a b : List (Label C
   pub ball : (s : ℕ) → Sure W s a → (l r : C) → label_of K a w ≡ Some l → Dist W s w l → K.sum l e ≡ Some r → Within K (label_of K b to) r
   pub rim : OverLegs W a b (length W.legs) w e to
 
--- the same for each row of the near table from `first` on and before i
-pub record FromNears {C : Type 0} {K : Kind C} (W : Water K) (near : List (Near C)) (a b : List (Label C)) (first i to : ℕ) : Type 0 where
-  pub each : (j : ℕ) → first ≤ j → j < i → FromNear W a b (near_at K near j).mark (near_at K near j).cost to
+-- the same for each row of a ball before i
+pub record FromBall {C : Type 0} {K : Kind C} (W : Water K) (ball : List (Near C)) (a b : List (Label C)) (i to : ℕ) : Type 0 where
+  pub each : (j : ℕ) → j < i → FromNear W a b (near_at K ball j).mark (near_at K ball j).cost to
 
--- step 1 for one mark v, hosted by u
-pub record Gathered {C : Type 0} {K : Kind C} (W : Water K) (hosts : List (Host C)) (near : List (Near C)) (a b : List (Label C)) (u v : ℕ) : Type 0 where
-  pub own : (s : ℕ) → Sure W s a → (l e r : C) → label_of K a u ≡ Some l → Dist W s u l → away_in K hosts v ≡ Some e → K.sum l e ≡ Some r
-      → Within K (label_of K b v) r
-  pub ball : FromNears W near a b (host_at K hosts v).start (host_at K hosts v).end v
+-- v has the offer from the label of its host
+pub record FromHost {C : Type 0} {K : Kind C} (W : Water K) (hosts : List (Host C)) (a b : List (Label C)) (v : ℕ) : Type 0 where
+  pub each : (s : ℕ) → Sure W s a → (l e r : C) → label_of K a (host_in K hosts v) ≡ Some l → Dist W s (host_in K hosts v) l
+      → away_in K hosts v ≡ Some e → K.sum l e ≡ Some r → Within K (label_of K b v) r
 
--- u is the host of v
+-- step 1 for one mark v
+pub record Gathered {C : Type 0} {K : Kind C} (W : Water K) (hosts : List (Host C)) (near : List (Near C)) (a b : List (Label C)) (v : ℕ) : Type 0 where
+  pub own : FromHost W hosts a b v
+  pub ball : FromBall W (ball_in K hosts near v) a b (length (ball_in K hosts near v)) v
+
+-- u is the host of v, so far away
 pub record Mine {C : Type 0} (K : Kind C) (hosts : List (Host C)) (u v : ℕ) : Type 0 where
-  pub known : (host_at K hosts v).known ≡ true
-  pub mark : (host_at K hosts v).mark ≡ u
+  pub away : C
+  pub pivot : (host_at K hosts v).pivot ≡ Some (record { mark = u; cost = away })
 
 -- step 1 for each mark below i
 pub record StepOne {C : Type 0} {K : Kind C} (W : Water K) (hosts : List (Host C)) (near : List (Near C)) (a b : List (Label C)) (u i : ℕ) : Type 0 where
-  pub each : (v : ℕ) → v < i → Mine K hosts u v → Gathered W hosts near a b u v
+  pub each : (v : ℕ) → v < i → Mine K hosts u v → Gathered W hosts near a b v
 
--- from the label q of y to each mark of its ball, by the rows of the near table before i
-pub record Spread {C : Type 0} (K : Kind C) (hosts : List (Host C)) (near : List (Near C)) (a : List (Label C)) (h : Held C) (b : List (Label C)) (h' : Held C) (first i : ℕ) (q : C) : Type 0 where
+-- from the label q of y to each mark of its ball, by its rows before i
+pub record Spread {C : Type 0} (K : Kind C) (hosts : List (Host C)) (ball : List (Near C)) (a : List (Label C)) (h : Held C) (b : List (Label C)) (h' : Held C) (i : ℕ) (q : C) : Type 0 where
   pub matched : Matched K hosts b h'
   pub keeps : Keeps K hosts a h b h'
   pub steady : Steady h h'
-  pub within : (j : ℕ) (r : C) → first ≤ j → j < i → K.sum q (near_at K near j).cost ≡ Some r → Within K (label_of K b (near_at K near j).mark) r
+  pub within : (j : ℕ) (r : C) → j < i → K.sum q (near_at K ball j).cost ≡ Some r → Within K (label_of K b (near_at K ball j).mark) r
   pub change : (v : ℕ) (c : C) → label_of K b v ≡ Some c
       → (label_of K a v ≡ Some c)
-      ⊎ ((j : ℕ) × (r : C) × (first ≤ j) × (j < i) × (K.sum q (near_at K near j).cost ≡ Some r)
-      × Comes K (pivot_in K hosts) (host_in K hosts) (away_in K hosts) (near_at K near j).mark r v c)
+      ⊎ ((j : ℕ) × (r : C) × (j < i) × (K.sum q (near_at K ball j).cost ≡ Some r)
+      × Comes K (pivot_in K hosts) (host_in K hosts) (away_in K hosts) (near_at K ball j).mark r v c)
 
--- step 2 for the mark x over the leg k: its far end, and the ball of that
-pub record SpreadLeg {C : Type 0} {K : Kind C} (W : Water K) (n : ℕ) (hosts : List (Host C)) (a b : List (Label C)) (k x : ℕ) : Type 0 where
-  pub leg : (y : ℕ) (l q : C) → Joins W.legs k x y → label_of K a x ≡ Some l → K.sum l (toll W k) ≡ Some q → Within K (label_of K b y) q
-  pub ball : (y w : ℕ) (l q e r : C) → Joins W.legs k x y → label_of K a x ≡ Some l → K.sum l (toll W k) ≡ Some q
+-- step 2 for the mark x over one leg: its far end, and the ball of that
+pub record SpreadLeg {C : Type 0} {K : Kind C} (W : Water K) (n : ℕ) (hosts : List (Host C)) (a b : List (Label C)) (leg : Leg) (x : ℕ) : Type 0 where
+  pub end : (y : ℕ) (l q : C) → T leg.«open» → Ends leg x y → label_of K a x ≡ Some l → K.sum l (W.price leg) ≡ Some q → Within K (label_of K b y) q
+  pub ball : (y w : ℕ) (l q e r : C) → T leg.«open» → Ends leg x y → label_of K a x ≡ Some l → K.sum l (W.price leg) ≡ Some q
       → InBall W n (pivot_in K hosts) y w e → K.sum q e ≡ Some r → Within K (label_of K b w) r
 
 -- the same from an exact label over each leg below i

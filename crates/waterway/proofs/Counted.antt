@@ -2,7 +2,7 @@
 use Rattle.std.proofs.Common.{◌≡◌, ℕ, zero, suc, ◌<◌, ◌⊎◌, List, [], ◌∷◌, ◌++◌, length, sym, refl, ap, ◌∙◌, ap₂, inl, inr, arith}
 use native.Mathlib.Decide.{ℕ_discrete}
 use Rattle.std.specs.List.{ContainsAt as Has, AllByRecursion}
-use Rattle.std.proofs.ByRecursion.{has_push, has_push_cases, has_append_left, all-has, All-push}
+use Rattle.std.proofs.ByRecursion.{has_push, has_push_cases, has_append_left, has_append_right, all-has, all_has_itself, All-push, All-weaker}
 use Rattle.waterway.specs.Counts.{Rising, Lists, Counts}
 
 -- a greater number put at the end
@@ -12,18 +12,17 @@ rising_push (x ∷ xs) m r a = (All-push (λ y. x < y) xs m r.0 a.0, rising_push
 
 -- all that stands in a list, as a statement of each
 pub has_here : (x : ℕ) (xs : List ℕ) → Has (x ∷ xs) x
-has_here x xs = (0, omega arith, λ d. refl)
+has_here x xs = has_append_left (x ∷ []) xs x (has_push [] x)
 
 pub has_there : (x y : ℕ) (xs : List ℕ) → Has xs y → Has (x ∷ xs) y
-has_there x y xs h = let lt = h.1 in (suc h.0, omega arith, h.2)
+has_there x y xs h = has_append_right (x ∷ []) xs y h
 
 pub has_cases : (x y : ℕ) (xs : List ℕ) → Has (x ∷ xs) y → (x ≡ y) ⊎ Has xs y
 has_cases x y xs (zero, lt, at) = inl (at 0)
 has_cases x y xs (suc k, lt, at) = inr (k, omega arith, at)
 
 all_if : (P : ℕ → Type 0) (xs : List ℕ) → ((x : ℕ) → Has xs x → P x) → AllByRecursion P xs
-all_if P [] h = tt
-all_if P (x ∷ xs) h = (h x (has_here x xs), all_if P xs (λ y g. h y (has_there x y xs g)))
+all_if P xs h = All-weaker (Has xs) P h xs (all_has_itself xs)
 
 module _ (P : ℕ → Type 0) where
   pub lists_exist : ((x : ℕ) → P x ⊎ (P x → ⊥)) → (n : ℕ) → (xs : List ℕ) × Lists P n xs

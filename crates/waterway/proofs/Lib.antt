@@ -22,4 +22,4 @@ pub mod Written
 pub mod Priced
 -- the theory in one place, and a waterway worked by it
 mod Theory
-mod Worked
+mod WorkedOut

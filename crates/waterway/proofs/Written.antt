@@ -1,12 +1,12 @@
 -- What labels say that are read and written.
-use Rattle.std.proofs.Common.{◌≡◌, ℕ, ◌+◌, ◌<◌, true, false, List, length, get_or, set, Some, None, Option, sym, ap, ◌∙◌, inl, inr, arith}
-use native.Mathlib.Decide.{ℕ_discrete}
-use Rattle.std.proofs.lemmas.List.{get_or_read, get_or-set_same, get_or-set_other, get_or_past}
-use Rattle.std.proofs.lemmas.Bool.{cases_lt, cond-true, cond-false}
+use Rattle.std.proofs.Common.{◌≡◌, ℕ, ◌<◌, true, false, List, length, replicate, get_or, set, Some, None, Option, sym, ap, ◌∙◌, arith}
+use native.Mathlib.Decide.{ℕ_discrete, dec_lt}
+use Rattle.std.proofs.lemmas.List.{get_or_read, get_or-set_same, get_or-set_other, get_or_past, get_or-replicate, length-replicate}
+use Rattle.std.proofs.lemmas.Bool.{cond-true, cond-false}
 use Rattle.measure.specs.Kind.{Kind, Lawful}
 use Rattle.measure.proofs.Sums as sums
 use Rattle.waterway.specs.declared.Label.{Label}
-use Rattle.waterway.specs.Labels.{told, unlabelled, label_of, Within, Lower, Wrote}
+use Rattle.waterway.specs.Labels.{told, unlabelled, label_of, Clean, Within, Lower, Wrote}
 
 module _ {C : Type 0} (K : Kind C) (labels : List (Label C)) where
   pub label_read : (v : ℕ) (l : Label C) → v < length labels → l ≡ get_or labels v l → label_of K labels v ≡ told l
@@ -26,19 +26,29 @@ module _ {C : Type 0} (K : Kind C) (labels : List (Label C)) where
     others = λ v ne. ap told (get_or-set_other labels y v (record { known = true; cost = r }) (unlabelled K) ne);
   }
 
-module _ {C : Type 0} (K : Kind C) (labels : List (Label C)) where
-  pub blanked_more : (i : ℕ) (z : C) → ((v : ℕ) → v < i → label_of K labels v ≡ None) → i < length labels
-      → (v : ℕ) → v < i + 1 → label_of K (set labels i (record { known = false; cost = z })) v ≡ None
-  unfolding label_of
-  blanked_more i z h lt v hi = elim (ℕ_discrete v i) [
-    | yes e ↦ ap (λ k. told (get_or (set labels i (record { known = false; cost = z })) k (unlabelled K))) e
-        ∙ ap told (get_or-set_same labels i (record { known = false; cost = z }) (unlabelled K) lt)
-    | no e ↦ ap told (get_or-set_other labels i v (record { known = false; cost = z }) (unlabelled K) e) ∙ h v (omega arith)
+module _ {C : Type 0} (K : Kind C) (n : ℕ) where
+  -- wherever labels are blanked, each reads as a blank one, and says nothing
+  pub blanked_at : (v : ℕ) → get_or (replicate n (unlabelled K)) v (unlabelled K) ≡ unlabelled K
+  blanked_at v = elim (dec_lt v n) [
+    | yes lt ↦ get_or-replicate n v (unlabelled K) (unlabelled K) lt
+    | no past ↦ get_or_past (replicate n (unlabelled K)) v (unlabelled K) (omega (arith, length-replicate n (unlabelled K)))
   ]
 
-  pub blanked_all : ((v : ℕ) → v < length labels → label_of K labels v ≡ None) → (v : ℕ) → label_of K labels v ≡ None
+  pub blanked : (v : ℕ) → label_of K (replicate n (unlabelled K)) v ≡ None
   unfolding label_of
-  blanked_all h v = elim (cases_lt v (length labels)) [ inl lt ↦ h v lt | inr past ↦ ap told (get_or_past labels v (unlabelled K) past) ]
+  blanked v = ap told (blanked_at v)
+
+  pub blanked_clean : Clean K (replicate n (unlabelled K))
+  blanked_clean = record { each = λ v none. blanked_at v }
+
+module _ {C : Type 0} {K : Kind C} {labels : List (Label C)} where
+  pub clean_wrote : (y : ℕ) (r : C) → y < length labels → Clean K labels → Clean K (set labels y (record { known = true; cost = r }))
+  clean_wrote y r lt clean = record {
+    each = λ v none. elim (ℕ_discrete v y) [
+      | yes e ↦ sums.some_none (wrote K labels y r lt).here (rw e at none)
+      | no e ↦ get_or-set_other labels y v (record { known = true; cost = r }) (unlabelled K) e ∙ clean.each v (sym ((wrote K labels y r lt).others v e) ∙ none)
+    ];
+  }
 
 -- Labels that fall
 

@@ -15,6 +15,10 @@ unlabelled K = record { known = false; cost = K.zero }
 unfoldable pub label_of : {C : Type 0} → Kind C → List (Label C) → ℕ → Option C
 label_of K labels v = told (slice_index_or labels v (unlabelled K))
 
+-- a label that says no is blank
+pub record Clean {C : Type 0} (K : Kind C) (labels : List (Label C)) : Type 0 where
+  pub each : (v : ℕ) → label_of K labels v ≡ None → slice_index_or labels v (unlabelled K) ≡ unlabelled K
+
 -- a cost is there, and is not above r
 pub record Within {C : Type 0} (K : Kind C) (o : Option C) (r : C) : Type 0 where
   pub value : C

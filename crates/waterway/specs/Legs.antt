@@ -1,5 +1,5 @@
 -- Legs by number, and which marks they join.
-use Rattle.std.specs.Prelude.{◌≡◌, ℕ, ◌<◌, false, ◌⊎◌, List, length, slice_index_or}
+use Rattle.std.specs.Prelude.{◌≡◌, ℕ, ◌<◌, false, T, ◌⊎◌, List, length, Some, None, Option, slice_index_or}
 use Rattle.waterway.specs.declared.Leg.{Leg}
 
 -- what stands where no leg does: a closed leg
@@ -17,3 +17,8 @@ Ends leg u v = ((leg.from ≡ u) × (leg.to ≡ v)) ⊎ ((leg.from ≡ v) × (le
 -- some leg, open or closed, has the ends u and v
 abbrev pub Joined : List Leg → ℕ → ℕ → Type 0
 Joined legs u v = (k : ℕ) × (k < length legs) × Ends (leg_at legs k) u v
+
+-- the other end of an open leg that ends at v
+abbrev pub FarEnd : Leg → ℕ → Option ℕ → Type 0
+FarEnd leg v None = (z : ℕ) → T leg.«open» → Ends leg z v → ⊥
+FarEnd leg v (Some z) = T leg.«open» × (Ends leg z v × ((x : ℕ) → Ends leg x v → x ≡ z))

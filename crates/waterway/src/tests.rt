@@ -1,8 +1,8 @@
 ghost use Rattle.std.specs.Prelude.{◌≡◌};
 ghost use Rattle.waterway.specs.Theory.{DistancesStand, HostsAndBallsStand, RoutesStand};
-ghost use Rattle.waterway.specs.Worked.{worked, WorkedByLength, WorkedByLocks, WorkedClosed};
 
-use crate::{Leg, joined, price_at};
+use crate::worked::worked_legs;
+use crate::{is_legal, joined, price_at};
 use measure::Cost;
 use measure::by_length::Length;
 use measure::by_locks::LocksFirst;
@@ -17,45 +17,6 @@ fn nothing<C: Cost>() -> C
     ensures routes { RoutesStand C.Cost.kind }
 {
     C::zero()
-}
-
-// The legs of the worked waterway, with leg 1 open or closed; and what the definitions say of it.
-fn worked_legs(one_open: bool) -> [Leg; 4]
-    ensures legs { result ≡ worked one_open }
-    ensures by_length { WorkedByLength }
-    ensures by_locks { WorkedByLocks }
-    ensures closed { WorkedClosed }
-{
-    [
-        Leg {
-            from: 0,
-            to: 1,
-            length: 30,
-            locks: 0,
-            open: true,
-        },
-        Leg {
-            from: 1,
-            to: 2,
-            length: 20,
-            locks: 2,
-            open: one_open,
-        },
-        Leg {
-            from: 0,
-            to: 2,
-            length: 70,
-            locks: 0,
-            open: true,
-        },
-        Leg {
-            from: 2,
-            to: 3,
-            length: 15,
-            locks: 0,
-            open: true,
-        },
-    ]
 }
 
 #[test]
@@ -79,4 +40,13 @@ fn legs_join_marks_either_way_round(rt: HostRuntime) {
     assert!(rt; joined(&legs, 2, 1));
     assert!(rt; joined(&legs, 1, 2));
     assert!(rt; !joined(&legs, 0, 3));
+}
+
+#[test]
+fn legs_have_limits(rt: HostRuntime) {
+    assert!(rt; is_legal(1, 0));
+    assert!(rt; is_legal(60_000, 99));
+    assert!(rt; !is_legal(0, 0));
+    assert!(rt; !is_legal(60_001, 0));
+    assert!(rt; !is_legal(1, 100));
 }

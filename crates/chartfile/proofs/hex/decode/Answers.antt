@@ -1,35 +1,46 @@
-use Rattle.std.proofs.Common.{inl, inr, arith, length-set}
-use Rattle.std.proofs.lemmas.Bool.Decides.{not_from_Decides}
-use Rattle.chartfile.proofs.Digits.{read_more, line_found, some_line, no_line}
+use Rattle.std.proofs.Common.{◌≡◌, ◌≢◌, ◌<◌, ◌≤◌, ◌==◌, [], ◌∷◌, ◌++◌, ◌∙◌, length, inl, inr, ap, arith, rules}
+use Rattle.std.proofs.lemmas.Bool.{cases_Bool}
+use Rattle.std.proofs.ByRecursion.{All-push}
+use Rattle.chartfile.proofs.Digits.{nothing_more, no_bytes, lone_digit, no_byte, one_more}
 use Rattle.chartfile.proofs.hex.decode.Goals as goal
-use Rattle.chartfile.proofs.hex.decode.Goals.{then-loop-count-test+else-not-ends_at, else-loop-count-test, else-count-gt0-via-then-count-gt0+else-ends_at, else-count-gt0-via-else-count-gt0}
 
-pub returns-in_err-bytes : goal.returns-in_err-bytes
-returns-in_err-bytes c =
-    let open_end = not_from_Decides _ c.ends_at.ensures c.if-not-ends_at.true in
-    rw c.from_residual.ensures
-    (λ bs rest. no_line c.args.text.now c.loop-count.bytes c.loop-count.count c.loop-count.invariant.0 bs rest open_end (inl c.in_err-bytes.ensures))
+pub returns-in_err-high : goal.returns-in_err-high
+returns-in_err-high c =
+    rw c.from_residual.ensures (nothing_more _ _ _ c.loop-high.invariant.0 c.in_err-high.ensures.cases)
 
-pub loop-count-preserved : goal.loop-count-preserved
-loop-count-preserved c =
-    (read_more _ _ _ _ (omega arith) c.loop-count.invariant.0 c.in_ok-bytes.ensures, simp length-set c.loop-count.invariant.1, omega arith)
+pub returns-then-high-eq-LINE_END : goal.returns-then-high-eq-LINE_END
+returns-then-high-eq-LINE_END c =
+    let here : c.loop-high.rest.now ≡ 10 ∷ c.in_ok-high.more.now = grind arith in
+    rw (c.then_some.ensures, c.is_empty.ensures) (elim (cases_Bool (length c.loop-high.bytes.items == 0)) [
+      | inl none ↦ rw none (no_bytes _ c.loop-high.bytes.items c.loop-high.rest.now c.loop-high.invariant.0 c.in_ok-high.more.now here (search rules))
+      | inr some ↦ rw some (search rules)
+    ])
 
-pub returns-then-ends_at : goal.returns-then-ends_at
-returns-then-ends_at c =
-    (omega arith, line_found c.args.text.now c.loop-count.bytes c.loop-count.count c.loop-count.invariant.0 (omega arith) (omega arith) (omega arith) (c.ends_at-then-count-gt0.ensures.0 c.if-ends_at.true))
+pub returns-in_err-low : goal.returns-in_err-low
+returns-in_err-low c =
+    rw c.from_residual-in_err-low.ensures (lone_digit _ _ _ c.loop-high.invariant.0 _ _ c.in_ok-high.ensures.cases.0 (search rules) c.in_err-low.ensures.cases)
 
--- the line has no end after 32 bytes, or it is empty
-pub returns-else-count-gt0 : goal.returns-else-count-gt0
-returns-else-count-gt0 c bs rest line = elim c.else-count-gt0.branch [
-  | else-count-gt0-via-then-count-gt0+else-ends_at w ↦ (
-      let open_end = not_from_Decides _ w.ends_at-then-count-gt0.ensures w.if-ends_at.false in
-      elim c.loop-count-test.branch [
-        | then-loop-count-test+else-not-ends_at v ↦ open_end (v.ends_at.ensures.0 v.if-not-ends_at.false)
-        | else-loop-count-test v ↦ no_line c.args.text.now c.loop-count.bytes c.loop-count.count c.loop-count.invariant.0 bs rest open_end (inr (omega arith)) line
-      ]
-      )
-  | else-count-gt0-via-else-count-gt0 w ↦ elim c.loop-count-test.branch [
-    | then-loop-count-test+else-not-ends_at v ↦ some_line _ _ _ c.loop-count.invariant.0 bs rest (omega arith) (v.ends_at.ensures.0 v.if-not-ends_at.false) line
-    | else-loop-count-test v ↦ omega arith
-  ]
-]
+pub returns-in_err-byte_of : goal.returns-in_err-byte_of
+returns-in_err-byte_of c =
+    let here : c.loop-high.rest.now ≡ c.in_ok-high.high.now ∷ c.in_ok-low.low.now ∷ c.in_ok-low.after.now = c.in_ok-high.ensures.cases.0 ∙ ap (λ rest. c.in_ok-high.high.now ∷ rest) c.in_ok-low.ensures.cases.0 in
+    rw c.from_residual-in_err-byte_of.ensures (no_byte _ _ _ c.loop-high.invariant.0 _ _ _ here (search rules) (λ b small spells. absurd (c.in_err-byte_of.ensures b small spells)))
+
+pub returns-in_err-ok : goal.returns-in_err-ok
+returns-in_err-ok c =
+    let here : c.loop-high.rest.now ≡ c.in_ok-high.high.now ∷ c.in_ok-low.low.now ∷ c.in_ok-low.after.now = c.in_ok-high.ensures.cases.0 ∙ ap (λ rest. c.in_ok-high.high.now ∷ rest) c.in_ok-low.ensures.cases.0 in
+    let other : c.in_ok-high.high.now ≢ 10 = search rules in
+    let full : 32 ≤ length c.loop-high.bytes.items = grind arith in
+    rw c.from_residual-in_err-ok.ensures (no_byte _ _ _ c.loop-high.invariant.0 _ _ _ here other (λ b small spells. full))
+
+pub loop-high-preserved : goal.loop-high-preserved
+loop-high-preserved c =
+    let here : c.loop-high.rest.now ≡ c.in_ok-high.high.now ∷ c.in_ok-low.low.now ∷ c.in_ok-low.after.now = c.in_ok-high.ensures.cases.0 ∙ ap (λ rest. c.in_ok-high.high.now ∷ rest) c.in_ok-low.ensures.cases.0 in
+    let bytes = c.loop-high.bytes.items in
+    let byte = c.in_ok-byte_of.field-0 in
+    let pushed : c.try_push.new.self.items ≡ bytes ++ byte ∷ [] = grind arith in
+    let few : length c.try_push.new.self.items ≤ 32 = grind arith in
+    let small : byte < 256 = search rules in (
+      rw pushed (one_more _ bytes _ c.loop-high.invariant.0 byte _ _ _ here c.in_ok-byte_of.ensures),
+      rw pushed (All-push (λ b. b < 256) bytes byte c.loop-high.invariant.1 small),
+      few,
+    )

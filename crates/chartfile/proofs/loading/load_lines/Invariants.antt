@@ -1,10 +1,10 @@
-use Rattle.std.proofs.Common.{◌≡◌, ◌-◌, length}
-use Rattle.chart.specs.Shown.{state}
+use Rattle.std.proofs.Common.{length}
+use Rattle.chart.specs.Shown.{Changes}
 use Rattle.chartfile.specs.Loading.{LoadedTo}
 use Rattle.chartfile.proofs.loading.load_lines.Given as goal
 
-abbrev pub invariant-loop-place : goal.invariant-loop-place
-invariant-loop-place g l = LoadedTo l.text l.place (state l.chart) × (l.chart.measure ≡ l.initial.chart.measure)
+abbrev pub invariant-loop-rest : goal.invariant-loop-rest
+invariant-loop-rest g l = Changes (λ _ s. LoadedTo l.text l.rest l.before s) l.initial.chart l.chart
 
-abbrev pub decreases-loop-place : goal.decreases-loop-place
-decreases-loop-place g l = length l.text - l.place.at
+abbrev pub decreases-loop-rest : goal.decreases-loop-rest
+decreases-loop-rest g l = length l.rest

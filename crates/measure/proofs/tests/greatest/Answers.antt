@@ -1,6 +1,5 @@
-use Rattle.std.proofs.Common.{rules}
 use Rattle.measure.proofs.Unlawful.{greatest_leg_is_unlawful}
 use Rattle.measure.proofs.tests.greatest.Goals as goal
 
-pub returns : goal.returns
-returns c = record { value = search rules; unlawful = greatest_leg_is_unlawful }
+pub returns-clause-unlawful : goal.returns-clause-unlawful
+returns-clause-unlawful c = greatest_leg_is_unlawful

@@ -1,4 +1,0 @@
-use Rattle.queue_tests.proofs.tests.draws_to_the_end.Given as goal
-
-abbrev pub invariant-loop : goal.invariant-loop
-invariant-loop g l = g.Q.Queue.Laid l.queue
