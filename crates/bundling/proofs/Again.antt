@@ -5,12 +5,12 @@ use Rattle.measure.specs.Kind.{Kind, AtMost}
 use Rattle.measure.proofs.Sums.{plus}
 use Rattle.waterway.specs.Labels.{Within, Lower}
 use Rattle.waterway.proofs.Written.{within_lower, lower_trans}
-use Rattle.bundling.proofs.Graph.{Hosts}
+use Rattle.bundling.proofs.Graph.{Hosts, Above}
 use Rattle.bundling.proofs.Queue.{true_false, Held, Draws}
 use Rattle.bundling.proofs.Nearby.{away, away_nearby}
 use Rattle.bundling.proofs.Labels.{offer, stays}
 use Rattle.bundling.proofs.Steps.{Ready, Step1, Step23}
-use Rattle.bundling.proofs.Draw.{first_draw, exact_key}
+use Rattle.bundling.proofs.Draw.{first_draw, exact_key, exact_draw}
 use Rattle.bundling.proofs.Bundle.{exact_bundle}
 
 module _ {C : Type 0} {K : Kind C} {dist : ℕ → ℕ → Option C} {Edge : ℕ → ℕ → C → Type 0} {pivot : ℕ → Bool} {host : ℕ → ℕ} {s : ℕ}
@@ -31,6 +31,15 @@ module _ {C : Type 0} {K : Kind C} {dist : ℕ → ℕ → Option C} {Edge : ℕ
       (least : (p : ℕ) (j : C) → Held pivot label drawn p j → k ≼ j) where
     -- u is drawn now.
     module _ {drawn' : ℕ → Bool} (draws : Draws drawn drawn' u) where
+      -- While the iteration runs, labels fall from `label` to `now`; those of drawn pivots, u among them, stay.
+      module _ {now : ℕ → Option C} (lower : Lower K label now) (above : Above K dist s now) where
+        pub drawn_exact : (p : ℕ) → drawn' p ≡ true → now p ≡ dist s p
+        drawn_exact p b =
+            elim (draws.no_other p b) [
+              | inl b ↦ stays ways lower above p (ready.exact p (rw (hosts.own p (ready.drawn_pivot p b)) b))
+              | inr e ↦ rw e (stays ways lower above u (exact_draw hosts ready held least))
+            ]
+
       module _ {label' label'' : ℕ → Option C} (step1 : Step1 hosts label label' u k) (step23 : Step23 hosts label label' label'' u) where
         falls : Lower K label label''
         falls = lower_trans ways.lawful step1.lower step23.lower

@@ -1,5 +1,5 @@
 -- What is drawn has its exact label.
-use Rattle.std.proofs.Common.{◌≡◌, ℕ, Bool, true, false, Some, Option, ap, ◌∙◌, inl, inr, arith}
+use Rattle.std.proofs.Common.{◌≡◌, ℕ, Bool, true, false, Some, Option, sym, ap, ◌∙◌, inl, inr, arith}
 use Rattle.std.proofs.lemmas.Bool.{cases_Bool}
 use Rattle.measure.specs.Kind.{Kind, AtMost}
 use Rattle.measure.proofs.Sums.{some_injective, at_most_trans, at_most_antisym, zero_at_most, plus, sum_plus, plus_mono_left, plus_more}
@@ -107,3 +107,6 @@ module _ {C : Type 0} {K : Kind C} {dist : ℕ → ℕ → Option C} {Edge : ℕ
           let m = ready.above u k held.key in
           let q = away ways m.is in
           rw (at_most_antisym L m.upto (key_upto held.pivotal held.undrawn q)) at q
+
+      pub exact_draw : label u ≡ dist s u
+      exact_draw = held.key ∙ sym exact_key.is

@@ -113,12 +113,23 @@ fn compare_shape(
     Ok(())
 }
 
+// A line at a time: each is out before the next is begun.
+fn tell(rt: &HostRuntime, tally: &Tally) -> anyhow::Result<()> {
+    println!(rt; "charts {}", tally.charts)?;
+    println!(rt; "searches {}, refused {}", tally.searches, tally.refused)?;
+    println!(rt;
+        "marks compared {}, without a way {}",
+        tally.marks, tally.apart
+    )?;
+    println!(rt; "differences {}", tally.differences)?;
+    Ok(())
+}
+
 fn main(rt: HostRuntime) -> anyhow::Result<()> {
     let mut dice = LongDice::new(20_251);
     let mut tally = Tally::default();
     for shape in &SHAPES {
         compare_shape(rt.alloc(), shape, &mut dice, &mut tally)?;
     }
-    println!(rt; "{tally}")?;
-    Ok(())
+    tell(&rt, &tally)
 }

@@ -3,16 +3,19 @@ use std::alloc::{AllocError, Global};
 
 const SIDE: usize = 256;
 
-// A weight for each pair of marks between which a way is known, a row for each mark that it leads from.
+// What stands in a row where no way is known. An `Option` for each pair would make the table twice as large.
+const NO_WAY: u64 = u64::MAX;
+
+// A weight for each pair of marks, a row for each mark that the way leads from.
 #[derive(Drop)]
 pub struct Pairs {
-    rows: Vec<[Option<u64>; SIDE]>,
+    rows: Vec<[u64; SIDE]>,
 }
 
 impl Pairs {
     // Each mark is nothing away from itself, and no other way is known.
     pub fn new(heap: Global, marks: u16) -> Result<Pairs, AllocError> {
-        let rows = vec![in heap; [None; SIDE]; SIDE]?;
+        let rows = vec![in heap; [NO_WAY; SIDE]; SIDE]?;
         let mut pairs = Pairs { rows };
         for mark in 0..marks {
             pairs.lower(mark, mark, 0);
@@ -20,9 +23,11 @@ impl Pairs {
         Ok(pairs)
     }
 
+    // The least weight known from one mark to another, if any is.
     pub fn at(&self, from: u16, to: u16) -> Option<u64> {
         let row = self.rows.get(usize::from(from))?;
-        row.get(usize::from(to)).copied().flatten()
+        let weight = *row.get(usize::from(to))?;
+        (weight != NO_WAY).then_some(weight)
     }
 
     // Lowers the weight from one mark to another.
@@ -31,7 +36,7 @@ impl Pairs {
             return;
         };
         if let Some(least) = row.get_mut(usize::from(to)) {
-            *least = Some(least.map_or(weight, |known| known.min(weight)));
+            *least = (*least).min(weight);
         }
     }
 

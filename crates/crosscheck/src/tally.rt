@@ -4,7 +4,6 @@ use crate::numbered::Numbered;
 use crate::pairs::Pairs;
 use plain::find_distances;
 use std::alloc::{AllocError, Global};
-use std::fmt;
 use waterway::{Label, Leg};
 
 #[derive(Default, Drop)]
@@ -15,19 +14,6 @@ pub struct Tally {
     pub marks: u64,
     pub apart: u64,
     pub differences: u64,
-}
-
-impl fmt::Display for Tally {
-    fn fmt<W: fmt::Write>(&self, f: &mut fmt::Formatter<W>) -> fmt::Result {
-        writeln!(f, "charts {}", self.charts)?;
-        writeln!(f, "searches {}, refused {}", self.searches, self.refused)?;
-        writeln!(
-            f,
-            "marks compared {}, without a way {}",
-            self.marks, self.apart
-        )?;
-        write!(f, "differences {}", self.differences)
-    }
 }
 
 impl Tally {

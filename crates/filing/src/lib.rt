@@ -4,6 +4,7 @@
 ghost use Rattle.std.specs.Prelude.{IfOk};
 ghost use Rattle.chart.specs.Shown.{state};
 ghost use Rattle.chart.specs.State.{blank};
+ghost use Rattle.filing.specs.Filing.{Loading};
 ghost use Rattle.filing.specs.Law.{Goes, Told};
 
 use chart::Chart;
@@ -41,13 +42,18 @@ fn perform<M: Measure>(chart: &mut Chart<M>, errand: &mut Errand) -> Result<Done
 {
     Ok(match errand {
         Errand::Call(call) => Done::Called(calls::perform(chart, *call)?),
-        Errand::Load(text) => {
-            load(chart, text.as_slice())?;
-            Done::Loaded {
-                marks: chart.marks(),
-                legs: chart.legs().len(),
-            }
-        }
+        Errand::Load(text) => load_file(chart, text.as_slice())?,
         Errand::Write(buffer) => Done::Written(write(chart, buffer.as_mut_slice())?),
+    })
+}
+
+// Loads a chart from its file, and tells what stands on it then.
+fn load_file<M: Measure>(chart: &mut Chart<M>, text: &[u8]) -> Result<Done, Refused>
+    ensures { Loading text.now (state chart.old) result (state chart.new) }
+{
+    load(chart, text)?;
+    Ok(Done::Loaded {
+        marks: chart.marks(),
+        legs: chart.legs().len(),
     })
 }

@@ -62,8 +62,17 @@ step_if L Less r back none = none (λ e. L.irrefl _ (rw e at r))
 step_if L Equal r back none = (refl, back r)
 step_if L Greater r back none = none (λ e. L.irrefl _ (rw e at r))
 
+module _ {C : Type 0} {K : Kind C} {W : Water K} {home : ℕ} where
+  pub route_home : {v : ℕ} {ks : List ℕ} → Route W home v ks → v ≡ home → ks ≡ []
+  route_home at_home e = refl
+  route_home (on s r) e = absurd (s.away e)
+
+  pub room_left : {v at : ℕ} {ks : List ℕ} → (v ≡ home → ⊥) → Route W home v ks → length ks ≤ at → 1 ≤ at
+  room_left away at_home short = absurd (away refl)
+  room_left away (on {k = k} {ks = ks} s r) short = omega (arith, length-append ks (k ∷ []))
+
 module _ {C : Type 0} {K : Kind C} {W : Water K} {n : ℕ} (S : Sound W n) (dear : Dear W) (home : ℕ) where
-  pub route_short : {v : ℕ} {ks : List ℕ} → home < n → Route W home v ks → length ks ≤ n
+  pub route_short : {v : ℕ} {ks : List ℕ} → home < n → Route W home v ks → length ks + 1 ≤ n
   route_short lt r =
       let w = routes.route_way S home dear r in
       omega (arith, pigeons n w.0 w.1.simple (bills.marks_in S w.1.walk lt), marks_length w.1.walk)

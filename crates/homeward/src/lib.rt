@@ -65,7 +65,7 @@ impl<M: Measure> Homeward<'_, M> {
         requires long { length steps.old ≡ length labels.now }
         ensures { StepsAre (waters M.Cost.Cost.kind M.Measure.priced self.now) self.now.home steps.new (length steps.new) }
     {
-        // By `enumerate` and a cast that loses nothing: what is written through `iter_mut` in a `zip` no proof knows.
+        // By `enumerate`, as what is written through `iter_mut` in a `zip` no proof knows. The cast loses nothing: there are at most 256 marks.
         for (v, step) in steps.iter_mut().enumerate() {
             *step = self.step_home(labels, v as u16);
         }

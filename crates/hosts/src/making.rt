@@ -95,7 +95,7 @@ pub fn make_hosts<M: Measure, Q: Queue<M::Cost>>(
     };
     let round = Round { bundles, pivots };
     let mut at = 0;
-    // By `enumerate` and a cast that loses nothing: what is written through `iter_mut` in a `zip` no proof knows.
+    // By `enumerate`, as what is written through `iter_mut` in a `zip` no proof knows. The cast loses nothing: there are at most 256 marks.
     for (v, host) in hosts.iter_mut().enumerate() {
         *host = round.local_host(labels, queue, near, at, v as u16);
         at = host.end;
@@ -113,7 +113,7 @@ pub fn make_selves<C: Cost>(selves: &mut [Host<C>])
     requires { length selves.old ≤ 256 }
     ensures { Selves C.Cost.kind selves.new (length selves.new) }
 {
-    // By `enumerate` and a cast, as in `make_hosts`.
+    // By `enumerate` and a cast that loses nothing, as in `make_hosts`.
     for (v, host) in selves.iter_mut().enumerate() {
         *host = own_host(v as u16, 0);
     }

@@ -11,7 +11,7 @@ use chart::Refusal;
 use measure::by_length::Length;
 use measure::by_locks::LocksFirst;
 use std::alloc::{AllocError, Global};
-use std::fmt::Write;
+use std::fmt::{self, Write};
 
 // A script as it was read.
 #[derive(Drop)]
@@ -38,12 +38,12 @@ pub fn answered(heap: Global, input: &[u8]) -> anyhow::Result<String> {
     Ok(replies(heap, script.lines.as_slice(), answers.as_slice())?)
 }
 
-// A reply a line, where these are the answers to the calls.
+// A reply a line, where these are the answers to the calls. Want of memory here is told as a text that can't be formatted.
 fn replies(
     heap: Global,
     lines: &[Line],
     answers: &[Result<Answer, Refusal>],
-) -> Result<String, AllocError>
+) -> Result<String, fmt::Error>
     requires { All (IsPlaced (length answers.now)) lines.now }
     ensures { IfOk result (λ out. string_bytes out ≡ replies_to answers.now lines.now) }
 {

@@ -51,17 +51,17 @@ module _ {C : Type 0} {K : Kind C} (L : Lawful K) {label label' : ℕ → Option
   fallen_wrote First p n = (p.1, λ l e. some_none e p.0)
   fallen_wrote Again p n = (p.1.1, λ l e. at_most_below L (p.0 l e))
 
-  pub offered_not : {key : ℕ → Option C} → Agrees label key → ((v : ℕ) → label' v ≡ label v) → Within K (label y) r → Offered K label label' key key y r
-  offered_not agrees same w = record {
-    lower = λ v c e. record { value = c; is = same v ∙ e; upto = at_most_refl L c };
-    within = rw (same y) w;
-    change = λ v. inl (same v);
-    agrees = λ p k e. same p ∙ agrees p k e;
-    keys = λ v ne. refl;
-    same_out = λ v. rw (same v);
-  }
-
   module _ {key key' : ℕ → Option C} (agrees : Agrees label key) where
+    pub offered_not : ((v : ℕ) → label' v ≡ label v) → Within K (label y) r → ((v : ℕ) → key' v ≡ key v) → Offered K label label' key key' y r
+    offered_not same w kept = record {
+      lower = λ v c e. record { value = c; is = same v ∙ e; upto = at_most_refl L c };
+      within = rw (same y) w;
+      change = λ v. inl (same v);
+      agrees = λ p k e. same p ∙ agrees p k (sym (kept p) ∙ e);
+      keys = λ v ne. kept v;
+      same_out = λ v. rw (same v, kept v);
+    }
+
     offered_wrote : Wrote label label' y r → ((l : C) → label y ≡ Some l → AtMost K r l) → ((v : ℕ) → (v ≡ y → ⊥) → key' v ≡ key v)
         → ((k : C) → key' y ≡ Some k → r ≡ k) → out label' key' y ≡ out label key y → Offered K label label' key key' y r
     offered_wrote w less keys at_y out_y = record {

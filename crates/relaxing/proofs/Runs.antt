@@ -50,7 +50,7 @@ module _ {C : Type 0} {K : Kind C} (L : Lawful K) where
     within_ran v p = within_lower L p.keeps.lower
 
 module _ {C : Type 0} {K : Kind C} {W : Water K} {n : ℕ} (S : Sound W n) where
-  reach_within : {s v : ℕ} {c : C} → Reach W s v c → Within K (dist S s v) c
+  pub reach_within : {s v : ℕ} {c : C} → Reach W s v c → Within K (dist S s v) c
   reach_within r = record { value = r.dist; is = dist_is S r.is; upto = r.upto }
 
   pub sure_above : {s : ℕ} {label : ℕ → Option C} → ((v : ℕ) (c : C) → label v ≡ Some c → Reach W s v c) → Above K (dist S) s label

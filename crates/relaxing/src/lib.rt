@@ -8,4 +8,4 @@ mod spreading;
 mod steps;
 
 pub use bundles::Bundles;
-pub use offers::{add, begin, label_at, offer, relax, try_relax};
+pub use offers::{Fall, add, begin, label_at, offer, relax, try_relax};

@@ -1,8 +1,8 @@
 -- What labels say that are read and written.
-use Rattle.std.proofs.Common.{◌≡◌, ℕ, ◌<◌, true, false, List, length, replicate, get_or, set, Some, None, Option, sym, ap, ◌∙◌, arith}
+use Rattle.std.proofs.Common.{◌≡◌, ℕ, ◌<◌, true, false, List, length, replicate, get_or, set, Some, None, Option, sym, ap, ◌∙◌, inl, inr, arith}
 use native.Mathlib.Decide.{ℕ_discrete, dec_lt}
 use Rattle.std.proofs.lemmas.List.{get_or_read, get_or-set_same, get_or-set_other, get_or_past, get_or-replicate, length-replicate}
-use Rattle.std.proofs.lemmas.Bool.{cond-true, cond-false}
+use Rattle.std.proofs.lemmas.Bool.{cases_lt, cond-true, cond-false}
 use Rattle.measure.specs.Kind.{Kind, Lawful}
 use Rattle.measure.proofs.Sums as sums
 use Rattle.waterway.specs.declared.Label.{Label}
@@ -26,6 +26,11 @@ module _ {C : Type 0} (K : Kind C) (labels : List (Label C)) where
     others = λ v ne. ap told (get_or-set_other labels y v (record { known = true; cost = r }) (unlabelled K) ne);
   }
 
+  -- labels that say nothing within their length say nothing anywhere
+  pub blanked_all : ((v : ℕ) → v < length labels → label_of K labels v ≡ None) → (v : ℕ) → label_of K labels v ≡ None
+  unfolding label_of
+  blanked_all h v = elim (cases_lt v (length labels)) [ inl lt ↦ h v lt | inr past ↦ ap told (get_or_past labels v (unlabelled K) past) ]
+
 module _ {C : Type 0} (K : Kind C) (n : ℕ) where
   -- wherever labels are blanked, each reads as a blank one, and says nothing
   pub blanked_at : (v : ℕ) → get_or (replicate n (unlabelled K)) v (unlabelled K) ≡ unlabelled K
@@ -37,6 +42,9 @@ module _ {C : Type 0} (K : Kind C) (n : ℕ) where
   pub blanked : (v : ℕ) → label_of K (replicate n (unlabelled K)) v ≡ None
   unfolding label_of
   blanked v = ap told (blanked_at v)
+
+  pub blanked_as : {labels : List (Label C)} → labels ≡ replicate n (unlabelled K) → (v : ℕ) → label_of K labels v ≡ None
+  blanked_as e = rw e blanked
 
   pub blanked_clean : Clean K (replicate n (unlabelled K))
   blanked_clean = record { each = λ v none. blanked_at v }

@@ -1,8 +1,7 @@
-use Rattle.std.proofs.Common.{◌≡◌, ℕ, length, None, refl, arith}
+use Rattle.std.proofs.Common.{◌≡◌, length, refl, rules, arith}
 use Rattle.std.proofs.lemmas.Bool.{both_ways}
-use Rattle.waterway.specs.Labels.{label_of}
 use Rattle.waterway.proofs.Priced.{charted, all_lie, priced_sound}
-use Rattle.waterway.proofs.Written.{blanked, blanked_clean}
+use Rattle.waterway.proofs.Written.{blanked_as, blanked_clean}
 use Rattle.plain.proofs.Rounds.{sure_start, reached_start, reached_more, all_told}
 use Rattle.plain.proofs.find_distances.Goals as goal
 
@@ -17,8 +16,7 @@ loop-round-init g c =
     let chart = charted c.if-marks-gt256.false (c.all_lie.ensures.0 c.if-not-all_lie.false) in
     let S = priced_sound K (g.M.Measure.priced c.args.m.now) chart g.M.Cost.Cost.lawful (g.met.M.Measure.small c.args.m.now) in
     let blank = c.blank_labels.ensures in
-    let none : (v : ℕ) → label_of K c.blank_labels.new.labels v ≡ None = rw blank (blanked K n) in
-    let sure = sure_start S none (rw c.zero.ensures at c.lower.ensures.lowered) in
+    let sure = sure_start S (blanked_as K n (search rules)) (rw c.zero.ensures at c.lower.ensures.lowered) in
     (sure, reached_start S sure, c.lower.ensures.clean (rw blank (blanked_clean K n)))
 
 pub loop-round-preserved : goal.loop-round-preserved

@@ -1,9 +1,9 @@
-use Rattle.std.proofs.Common.{arith}
+use Rattle.std.proofs.Common.{refl, arith}
 use Rattle.relaxing.proofs.Offering.{setting_steady, offered_not, put_offered, lower_offered}
 use Rattle.relaxing.proofs.offers.offer.Goals as goal
 
 pub returns-in-Not-clause-offered : goal.returns-in-Not-clause-offered
-returns-in-Not-clause-offered g c = let f = c.in-Not.ensures.fallen in offered_not g.C.Cost.lawful c.requires.agrees f.0 f.1
+returns-in-Not-clause-offered g c = let f = c.in-Not.ensures.fallen in offered_not g.C.Cost.lawful c.requires.agrees f.0 f.1 (λ v. refl)
 
 pub returns-in-First-clause-steady : goal.returns-in-First-clause-steady
 returns-in-First-clause-steady g c = setting_steady (g.Q.Queue.held c.args.queue.now) (g.Q.Queue.held c.put.new.self) c.args.mark c.args.cost c.put.result c.put.ensures.after
